@@ -1,0 +1,42 @@
+-- Document 01, "Refusal numbers": the table. 0 is not a refusal.
+use Prim.Native.Nat.{ℕ}
+use Rattle.frame.specs.declared.Refusal.{Refusal}
+use Rattle.frame.specs.declared.Refusal.the-variants.{TooFew, NotData, OtherFormat, Escape, LeftOver, WrongCheck, OtherCode, InformationEscape, LongStandard, OtherHeader, OtherService, OtherLength, SmallRoom, OutOfRange, WrongSetting, WrongRecord, LineTwice, NoTable}
+
+abbrev pub number : Refusal → ℕ
+-- fewer octets than the frame needs
+number TooFew = 1
+-- TP1 control octet of another kind
+number NotData = 2
+-- EFF not 0000
+number OtherFormat = 3
+-- LG octet 255
+number Escape = 4
+-- octets left after the frame
+number LeftOver = 5
+-- wrong check octet
+number WrongCheck = 6
+-- message code not 11h, 2Eh, 29h; in routing, not 29h
+number OtherCode = 7
+-- a = 255
+number InformationEscape = 8
+-- cEMI standard with LG above 15
+number LongStandard = 9
+-- KNXnet/IP header length not 06h or version not 10h
+number OtherHeader = 10
+-- service not 0530h
+number OtherService = 11
+-- total length differs from the datagram's
+number OtherLength = 12
+-- lent room too small
+number SmallRoom = 13
+-- a number given by the caller is outside its range
+number OutOfRange = 14
+-- own line 00h, or a setting code not allowed
+number WrongSetting = 15
+-- site length not a multiple of 12, or a wrong mark
+number WrongRecord = 16
+-- one line twice in a site
+number LineTwice = 17
+-- filter table missing or of wrong size
+number NoTable = 18

@@ -1,0 +1,4 @@
+pub mod Octets
+pub mod Word
+pub mod Check
+pub mod Room
