@@ -1,0 +1,80 @@
+-- The fields of a control octet and of CTRLE, taken apart and put together again. Each fact on one octet is a test computed
+-- over all its values.
+use Prim.Native.Nat.{ℕ, _+_, _*_, _/_, _%_, _<_}
+use mathlib.Core.Bool.{Bool, true, false, not, _&&_, Bool·beq}
+use mathlib.Core.Path.{_≡_, refl}
+use native.Mathlib.Omega.{arith}
+use lib.Dec.{ltb, leb, eqb}
+use borrow.Author.Tests.{ltb-true, eqb-true, le-leb, lt-leb}
+use Rattle.frame.specs.Fields.{controlOf, ctrleOf, meaningOf}
+use Rattle.frame.specs.declared.Meaning.{Meaning}
+use Rattle.octets.proofs.Below.{and-true, at-below, implies, implied, beq-true}
+use Rattle.octets.specs.Octets.{weigh}
+
+-- from octets to their fields and back
+
+-- bit 6 is 0, bit 4 is 1 and bits 1 and 0 are 00: what bits the other fields leave
+abbrev pub fixedBits : ℕ → Bool
+fixedBits c = eqb (c / 64 % 2) 0 && eqb (c / 16 % 2) 1 && eqb (c % 4) 0
+
+pub control-back : (c t s d : ℕ) → c < 256 → fixedBits c ≡ true → controlOf (meaningOf c t s d) ≡ c
+unfolding controlOf
+control-back c t s d h e =
+    eqb-true _ _ (implied _ _ (at-below (λ c. implies (fixedBits c) (eqb (weigh (not (ltb c 128)) 128 + weigh (eqb (c / 32 % 2) 1) 32 + 16 + c / 4 % 4 % 4 * 4) c)) 256 c refl h) e)
+
+pub ctrle-back : (c t s d : ℕ) → t < 256 → ctrleOf (meaningOf c t s d) (t % 16) ≡ t
+unfolding ctrleOf
+ctrle-back c t s d h = eqb-true _ _ (at-below (λ t. eqb (weigh (leb 128 t) 128 + t / 16 % 8 % 8 * 16 + t % 16 % 16) t) 256 t refl h)
+
+-- from a meaning to its octets and back
+
+-- what is to hold of a control octet that was made of e, f and p
+abbrev controlTest : Bool → Bool → ℕ → Bool
+controlTest e f p =
+    let c = weigh (not e) 128 + weigh f 32 + 16 + p % 4 * 4 in
+    fixedBits c && Bool·beq (ltb c 128) e && Bool·beq (eqb (c / 32 % 2) 1) f && eqb (c / 4 % 4) p && ltb c 256
+
+control-test : (e f : Bool) (p : ℕ) → p < 4 → controlTest e f p ≡ true
+control-test true true p h = at-below (controlTest true true) 4 p refl h
+control-test true false p h = at-below (controlTest true false) 4 p refl h
+control-test false true p h = at-below (controlTest false true) 4 p refl h
+control-test false false p h = at-below (controlTest false false) 4 p refl h
+
+pub record ControlFields (m : Meaning) : Type 0 where
+  pub fixed : fixedBits (controlOf m) ≡ true
+  pub extended : ltb (controlOf m) 128 ≡ m .extended
+  pub first : eqb (controlOf m / 32 % 2) 1 ≡ m .first
+  pub priority : controlOf m / 4 % 4 ≡ m .priority
+  pub octet : controlOf m < 256
+
+pub control-fields : (m : Meaning) → m .priority < 4 → ControlFields m
+unfolding controlOf
+control-fields m h =
+    let a = and-true _ _ (control-test (m .extended) (m .first) (m .priority) h) in
+    let b = and-true _ _ (a .0) in
+    let d = and-true _ _ (b .0) in
+    let e = and-true _ _ (d .0) in
+    record { fixed = e .0; extended = beq-true _ _ (e .1); first = beq-true _ _ (d .1); priority = eqb-true _ _ (b .1); octet = ltb-true _ _ (a .1) }
+
+pub record CtrleFields (m : Meaning) (l : ℕ) : Type 0 where
+  pub group : leb 128 (ctrleOf m l) ≡ m .group
+  pub count : ctrleOf m l / 16 % 8 ≡ m .count
+  pub low : ctrleOf m l % 16 ≡ l
+  pub octet : ctrleOf m l < 256
+
+ctrle-at : (g : Bool) (k l : ℕ) → k < 8 → l < 16
+    → (leb 128 (weigh g 128 + k % 8 * 16 + l % 16) ≡ g) × (((weigh g 128 + k % 8 * 16 + l % 16) / 16 % 8 ≡ k) × (((weigh g 128 + k % 8 * 16 + l % 16) % 16 ≡ l) × (weigh g 128 + k % 8 * 16 + l % 16 < 256)))
+ctrle-at true k l hk hl = (le-leb 128 (128 + k % 8 * 16 + l % 16) (omega arith), (omega arith, (omega arith, omega arith)))
+ctrle-at false k l hk hl = (lt-leb 128 (0 + k % 8 * 16 + l % 16) (omega arith), (omega arith, (omega arith, omega arith)))
+
+pub ctrle-fields : (m : Meaning) (l : ℕ) → m .count < 8 → l < 16 → CtrleFields m l
+unfolding ctrleOf
+ctrle-fields m l hk hl =
+    let a = ctrle-at (m .group) (m .count) l hk hl in
+    record { group = a .0; count = a .1 .0; low = a .1 .1 .0; octet = a .1 .1 .1 }
+
+pub meaning-back : (m : Meaning) (l s d : ℕ) → m .priority < 4 → m .count < 8 → l < 16 → s ≡ m .source → d ≡ m .destination → meaningOf (controlOf m) (ctrleOf m l) s d ≡ m
+meaning-back m l s d hp hc hl es ed =
+    let a = control-fields m hp in
+    let b = ctrle-fields m l hc hl in
+    λ i. record { extended = a .extended i; first = a .first i; priority = a .priority i; source = es i; group = b .group i; destination = ed i; count = b .count i }

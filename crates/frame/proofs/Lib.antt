@@ -1,0 +1,4 @@
+pub mod Order
+pub mod Fields
+pub mod Valid
+pub mod Writing
