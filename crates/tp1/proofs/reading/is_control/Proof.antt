@@ -1,0 +1,15 @@
+use mathlib.Core.Path.{refl}
+use Rattle.tp1.specs.Reading.{isControl}
+use Rattle.tp1.proofs.reading.is_control.Statement.{statement}
+use Rattle.tp1.proofs.reading.is_control.Tie as tie
+
+returns : tie.Need-returns
+unfolding isControl
+returns c =
+    refl
+
+pub is-control-spec : {M : Type 1} → statement M
+is-control-spec =
+    tie.close
+    (tie.spec
+    returns)

@@ -1,0 +1,33 @@
+-- Each arm settles the format; the fields are the octets that its layout names.
+use mathlib.Core.Path.{sym, _∙_}
+use borrow.Author.Needs.{needs}
+use Rattle.tp1.specs.Reading.{meaningIn}
+use Rattle.tp1.proofs.reading.meaning_in.Statement.{statement}
+use Rattle.tp1.proofs.reading.meaning_in.Tie as tie
+
+returns : tie.Need-returns
+unfolding meaningIn
+returns c =
+    rw (sym (c .before .before .before .before .before .is-extended .ensures) ∙ c .before .before .before .before .if1 .taken, ← c .before .before .before .before .before .before .octet .ensures, ← c .before .before .before .octet2 .ensures, ← c .before .before .word-at .ensures, ← c .before .word-at2 .ensures) (c .meaning-of .ensures)
+
+returns-2 : tie.Need-returns-2
+unfolding meaningIn
+returns-2 c =
+    rw (sym (c .before .before .before .before .before .is-extended .ensures) ∙ c .before .before .before .before .if1 .left, ← c .before .before .before .before .before .before .octet .ensures, ← c .before .before .before .octet3 .ensures, ← c .before .before .word-at3 .ensures, ← c .before .word-at4 .ensures) (c .meaning-of2 .ensures)
+
+pub meaning-in-spec : {M : Type 1} → statement M
+meaning-in-spec =
+    tie.close
+    (tie.spec
+    (λ c κs. search needs)
+    (λ c κs. search needs)
+    (λ c κs. search needs)
+    (λ c κs. search needs)
+    (λ c κs. search needs)
+    (λ c κs. search needs)
+    (λ c κs. search needs)
+    (λ c κs. search needs)
+    (λ c κs. search needs)
+    (λ c κs. search needs)
+    returns
+    returns-2)
