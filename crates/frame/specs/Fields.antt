@@ -2,7 +2,9 @@
 use Prim.Native.Nat.{ℕ, _+_, _*_, _/_, _%_}
 use mathlib.Core.Bool.{not}
 use lib.Dec.{ltb, leb, eqb}
-use Rattle.octets.specs.Octets.{weigh}
+use mathlib.Core.List.{List, [], _∷_}
+use Rattle.octets.specs.Octets.{octetAt, weigh}
+use Rattle.octets.specs.Word.{high, low, wordAt}
 use Rattle.frame.specs.declared.Meaning.{Meaning}
 
 -- "Bit 7: 1 standard, 0 extended. Bit 6: 0. Bit 5: 1 first sending, 0 repeated. Bit 4: 1. Bits 3 and 2: priority. Bits 1 and 0: 00."
@@ -24,3 +26,19 @@ meaningOf c t s d = record {
   destination = d;
   count = t / 16 % 8;
 }
+
+-- what follows the control octet in an extended frame, "CTRLE (.. EFF bits 3 to 0), source, destination, LG", and Ctrl1 in cEMI,
+-- "Ctrl2 (as CTRLE), source, destination, LG"; "EFF must be 0000 here"
+abbrev pub fieldsOf : Meaning → ℕ → List ℕ
+fieldsOf m lg =
+    ctrleOf m 0
+    ∷ high (m .source)
+    ∷ low (m .source)
+    ∷ high (m .destination)
+    ∷ low (m .destination)
+    ∷ lg
+    ∷ []
+
+-- what octets mean that begin with a control octet and these fields
+unfoldable pub fieldsMeaning : List ℕ → Meaning
+fieldsMeaning s = meaningOf (octetAt s 0) (octetAt s 1) (wordAt s 2) (wordAt s 4)

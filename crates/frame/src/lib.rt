@@ -1,7 +1,7 @@
 // A frame's meaning, the refusals with their numbers, and the octets that the formats share.
 ghost use mathlib.Core.Path.{_≡_};
 ghost use Rattle.frame.specs.Refusals.{number};
-ghost use Rattle.frame.specs.Fields.{controlOf, ctrleOf, meaningOf};
+ghost use Rattle.frame.specs.Fields.{controlOf, ctrleOf, meaningOf, fieldsMeaning};
 ghost use Rattle.frame.specs.Valid.{inRange};
 
 // "A frame's meaning: format, repeat flag, priority, source, AT, destination, hop count, payload".
@@ -101,6 +101,15 @@ pub fn meaning_of(control: u8, ctrle: u8, source: u16, destination: u16) -> Mean
         destination,
         count: ctrle / 16 % 8,
     }
+}
+
+// The meaning of octets that begin as an extended frame does, and as cEMI does from Ctrl1 on.
+pub fn fields_meaning(octets: &[u8]) -> Meaning
+    ensures { λ r. ⌜ r ≡ fieldsMeaning (now (octets .entry)) ⌝ }
+{
+    let source = octets::word_at(octets, 2);
+    let destination = octets::word_at(octets, 4);
+    meaning_of(octets::octet(octets, 0), octets::octet(octets, 1), source, destination)
 }
 
 // Whether priority, hop count and the payload's length are ones that the format has.

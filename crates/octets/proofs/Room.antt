@@ -2,15 +2,19 @@
 use Prim.Native.Nat.{ℕ, suc, _+_, _≤_, _<_}
 use mathlib.Core.List.{List, [], _∷_, _++_}
 use mathlib.Core.Path.{_≡_, sym}
+use native.Mathlib.Nat.{zero-add}
 use native.Mathlib.Omega.{arith}
 use lib.ListN.{length, getD, take, drop, set, length-append, length-drop}
 use lib.Seq.{drop-cons, append-snoc, take-append-seam, drop-append-add, drop-drop, set-at}
 use borrow.Author.Tests.{le-leb}
-use Rattle.octets.specs.Room.{laid}
+use Rattle.octets.specs.Room.{laid, over}
 
 pub laid-fits : (o : List ℕ) (from : ℕ) (room : List ℕ) → from + length o ≤ length room → laid o from room ≡ take from room ++ o ++ drop (from + length o) room
 unfolding laid
 laid-fits o from room h = rw (le-leb (from + length o) (length room) h)
+
+pub laid-front : (o room : List ℕ) → length o ≤ length room → laid o 0 room ≡ over o room
+laid-front o room h = rw zero-add at (laid-fits o 0 room (omega arith))
 
 module _ (H p room : List ℕ) where
   -- octets laid behind a head that was put first

@@ -9,7 +9,7 @@ use lib.Seq.{take-at}
 use Rattle.frame.proofs.Valid.{ranges-of}
 use Rattle.frame.specs.Valid.{inRange}
 use Rattle.frame.specs.declared.Meaning.{Meaning}
-use Rattle.octets.proofs.Room.{laid-behind, set-behind}
+use Rattle.octets.proofs.Room.{laid-front, laid-behind, set-behind}
 use Rattle.octets.specs.Check.{checkOctet}
 use Rattle.octets.specs.Room.{laid, over}
 use Rattle.tp1.specs.Layout.{standardHead, extendedHead, head, headOf, sealed, tp1Octets}
@@ -50,7 +50,7 @@ most-payload m k e = go (m .extended) (ranges-of m k e .most)
 
 -- head, payload and check octet, each laid behind the one before, are the frame over the room
 pub frame-room : (m : Meaning) (p room : List ℕ) (n : ℕ) {r₁ r₂ r₃ : List ℕ} → n ≡ headOf (m .extended) → headOf (m .extended) + length p < length room
-    → r₁ ≡ over (head m (length p - 1)) room
+    → r₁ ≡ laid (head m (length p - 1)) 0 room
     → r₂ ≡ laid p n r₁
     → r₃ ≡ set r₂ (n + length p) (checkOctet (take (n + length p) r₂))
     → r₃ ≡ over (tp1Octets m p) room
@@ -59,6 +59,6 @@ frame-room m p room n {r₁} {r₂} {r₃} en h e₁ e₂ e₃ =
     let H : List ℕ = head m (length p - 1) in
     let k : n ≡ length H = en ∙ sym (length-head m (length p - 1)) in
     let fits : length H + length p < length room = omega (arith, k, en) in
-    let laid₂ : r₂ ≡ (H ++ p) ++ drop (length H + length p) room = e₂ ∙ rw (k, e₁) (laid-behind H p room (omega arith)) in
+    let laid₂ : r₂ ≡ (H ++ p) ++ drop (length H + length p) room = e₂ ∙ rw (k, e₁ ∙ laid-front H room (omega arith)) (laid-behind H p room (omega arith)) in
     let size : length (H ++ p ++ (checkOctet (H ++ p) ∷ [])) ≡ suc (length H + length p) = simp length-append (omega arith) in
     e₃ ∙ rw (laid₂, k, take-at (H ++ p) (drop (length H + length p) room) (length H + length p) (length-append H p), size) (set-behind H p room (checkOctet (H ++ p)) fits)

@@ -6,7 +6,7 @@ use lib.ListN.{length}
 use Rattle.octets.specs.Word.{high, low}
 use Rattle.octets.specs.Check.{checkOctet}
 use Rattle.frame.specs.declared.Meaning.{Meaning}
-use Rattle.frame.specs.Fields.{controlOf, ctrleOf}
+use Rattle.frame.specs.Fields.{controlOf, ctrleOf, fieldsOf}
 
 -- "Standard, 8 + LG octets: control, source (2), destination (2), one octet of AT (bit 7), hop count (bits 6 to 4) and LG (bits 3 to 0), .."
 abbrev pub standardHead : Meaning → ℕ → List ℕ
@@ -19,17 +19,9 @@ standardHead m lg =
     ∷ ctrleOf m lg
     ∷ []
 
--- "Extended, 9 + LG octets: control, CTRLE (AT bit 7, hop count bits 6 to 4, EFF bits 3 to 0), source, destination, LG, .."; "EFF must be 0000 here"
+-- "Extended, 9 + LG octets: control, CTRLE, source, destination, LG, .."
 abbrev pub extendedHead : Meaning → ℕ → List ℕ
-extendedHead m lg =
-    controlOf m
-    ∷ ctrleOf m 0
-    ∷ high (m .source)
-    ∷ low (m .source)
-    ∷ high (m .destination)
-    ∷ low (m .destination)
-    ∷ lg
-    ∷ []
+extendedHead m lg = controlOf m ∷ fieldsOf m lg
 
 unfoldable pub head : Meaning → ℕ → List ℕ
 head m lg = cond (m .extended) (extendedHead m lg) (standardHead m lg)

@@ -10,7 +10,7 @@ use Rattle.octets.specs.Check.{checkOctet}
 use Rattle.frame.specs.declared.Meaning.{Meaning}
 use Rattle.frame.specs.declared.Refusal.the-variants.{TooFew, NotData, OtherFormat, Escape, LeftOver, WrongCheck}
 use Rattle.frame.specs.Order.{Test, _gives_, firstOf, answerBy}
-use Rattle.frame.specs.Fields.{meaningOf}
+use Rattle.frame.specs.Fields.{meaningOf, fieldsMeaning}
 use Rattle.tp1.specs.declared.Tp1Answer.{Tp1Answer}
 use Rattle.tp1.specs.declared.Tp1Answer.the-variants.{Frame, Refused}
 use Rattle.tp1.specs.Layout.{headOf}
@@ -47,7 +47,7 @@ isChecked s = eqb (octetAt s (length s - 1)) (checkOctet (take (length s - 1) s)
 unfoldable pub meaningIn : List ℕ → Meaning
 meaningIn s =
     cond (isExtended s)
-    (meaningOf (octetAt s 0) (octetAt s 1) (wordAt s 2) (wordAt s 4))
+    (fieldsMeaning s)
     (meaningOf (octetAt s 0) (octetAt s 5) (wordAt s 1) (wordAt s 3))
 
 abbrev pub tp1Tests : List ℕ → List Test

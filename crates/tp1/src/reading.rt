@@ -62,11 +62,12 @@ fn is_checked(octets: &[u8]) -> bool
 fn meaning_in(octets: &[u8]) -> Meaning
     ensures { λ r. ⌜ r ≡ meaningIn (now (octets .entry)) ⌝ }
 {
-    let control = octets::octet(octets, 0);
     if is_extended(octets) {
-        frame::meaning_of(control, octets::octet(octets, 1), octets::word_at(octets, 2), octets::word_at(octets, 4))
+        frame::fields_meaning(octets)
     } else {
-        frame::meaning_of(control, octets::octet(octets, 5), octets::word_at(octets, 1), octets::word_at(octets, 3))
+        let source = octets::word_at(octets, 1);
+        let destination = octets::word_at(octets, 3);
+        frame::meaning_of(octets::octet(octets, 0), octets::octet(octets, 5), source, destination)
     }
 }
 

@@ -5,40 +5,43 @@ ghost use mathlib.Core.List.{_++_};
 ghost use Prim.Native.Nat.{_+_, _-_, _<_, _≤_};
 ghost use lib.ListN.{length, take, drop, set};
 ghost use Rattle.octets.specs.Check.{checkOctet};
-ghost use Rattle.octets.specs.Room.{over};
+ghost use Rattle.octets.specs.Room.{laid, over};
 ghost use Rattle.frame.specs.Valid.{inRange};
 ghost use Rattle.tp1.specs.Layout.{standardHead, extendedHead, head, headOf, tp1Octets};
 
 use frame::Meaning;
 
 fn put_standard_head(meaning: Meaning, lg: u8, room: &mut [u8])
-    requires { ⌜ 6 ≤ length (now room) ⌝ }
-    ensures { λ _. ⌜ now (room .exit) ≡ over (standardHead meaning lg) (now (room .entry)) ⌝ }
+    ensures { λ _. ⌜ now (room .exit) ≡ laid (standardHead meaning lg) 0 (now (room .entry)) ⌝ }
 {
-    room[0] = frame::control(meaning);
-    room[1] = octets::high_octet(meaning.source);
-    room[2] = octets::low_octet(meaning.source);
-    room[3] = octets::high_octet(meaning.destination);
-    room[4] = octets::low_octet(meaning.destination);
-    room[5] = frame::ctrle(meaning, lg);
+    let head = [
+        frame::control(meaning),
+        octets::high_octet(meaning.source),
+        octets::low_octet(meaning.source),
+        octets::high_octet(meaning.destination),
+        octets::low_octet(meaning.destination),
+        frame::ctrle(meaning, lg),
+    ];
+    octets::lay(&head, 0, room);
 }
 
 fn put_extended_head(meaning: Meaning, lg: u8, room: &mut [u8])
-    requires { ⌜ 7 ≤ length (now room) ⌝ }
-    ensures { λ _. ⌜ now (room .exit) ≡ over (extendedHead meaning lg) (now (room .entry)) ⌝ }
+    ensures { λ _. ⌜ now (room .exit) ≡ laid (extendedHead meaning lg) 0 (now (room .entry)) ⌝ }
 {
-    room[0] = frame::control(meaning);
-    room[1] = frame::ctrle(meaning, 0);
-    room[2] = octets::high_octet(meaning.source);
-    room[3] = octets::low_octet(meaning.source);
-    room[4] = octets::high_octet(meaning.destination);
-    room[5] = octets::low_octet(meaning.destination);
-    room[6] = lg;
+    let head = [
+        frame::control(meaning),
+        frame::ctrle(meaning, 0),
+        octets::high_octet(meaning.source),
+        octets::low_octet(meaning.source),
+        octets::high_octet(meaning.destination),
+        octets::low_octet(meaning.destination),
+        lg,
+    ];
+    octets::lay(&head, 0, room);
 }
 
 fn put_head(meaning: Meaning, lg: u8, room: &mut [u8])
-    requires { ⌜ 7 ≤ length (now room) ⌝ }
-    ensures { λ _. ⌜ now (room .exit) ≡ over (head meaning lg) (now (room .entry)) ⌝ }
+    ensures { λ _. ⌜ now (room .exit) ≡ laid (head meaning lg) 0 (now (room .entry)) ⌝ }
 {
     if meaning.extended {
         put_extended_head(meaning, lg, room);
