@@ -14,8 +14,8 @@ use Rattle.frame.specs.Order.{_gives_}
 use Rattle.frame.specs.Writing.{writeTests, written, Wrote}
 use Rattle.frame.specs.declared.Refusal.the-variants.{SmallRoom, OutOfRange}
 use Rattle.frame.specs.declared.Refusal.{Refusal}
+use Rattle.frame.specs.declared.Written.the-variants.{Put, Refused}
 use Rattle.frame.specs.declared.Written.{Written}
-use Rattle.frame.specs.declared.Written.the-variants.{Octets as Put, Refused}
 
 -- two outcomes that the contract allows coincide
 pub wrote-one : {ranged : Bool} {octets room : List ℕ} {r₁ r₂ : Written} {a₁ a₂ : List ℕ} → Wrote ranged octets room r₁ a₁ → Wrote ranged octets room r₂ a₂ → (r₁ ≡ r₂) × (a₁ ≡ a₂)

@@ -41,7 +41,7 @@ pub enum Refusal {
 
 // What a writer answers: how many octets of the room are the frame's, or why it wrote none.
 pub enum Written {
-    Octets(usize),
+    Put(usize),
     Refused(Refusal),
 }
 

@@ -5,7 +5,7 @@ use mathlib.Core.Path.{_≡_, refl, sym, ap, _∙_}
 use native.Mathlib.Nat.{add-zero, zero-add}
 use native.Mathlib.Omega.{arith}
 use lib.ListN.{length, getD, take, drop}
-use lib.Seq.{take-all, take-suc, drop-cons}
+use lib.Seq.{take-all, take-suc, drop-cons, take-at}
 
 -- the n elements from index i
 abbrev pub firsts : ℕ → ℕ → List ℕ → List ℕ
@@ -29,3 +29,6 @@ head-rest n s h = rw zero-add at (firsts-drop n 0 s (omega arith))
 
 pub last : (k : ℕ) (r : List ℕ) → length r ≡ suc k → r ≡ take k r ++ (getD r k 0 ∷ [])
 last k r h = sym (take-all (suc k) r (omega arith)) ∙ take-suc r k 0 (omega arith)
+
+pub take-firsts : (n : ℕ) (s : List ℕ) → n ≤ length s → take n s ≡ firsts n 0 s
+take-firsts n s h = ap (take n) (head-rest n s h) ∙ take-at (firsts n 0 s) (drop n s) n (length-firsts n 0 s)

@@ -59,7 +59,7 @@ pub fn write(meaning: Meaning, payload: &[u8], room: &mut [u8]) -> Written
             return Written::Refused(Refusal::SmallRoom);
         }
         writing::put(meaning, payload, room);
-        Written::Octets(size)
+        Written::Put(size)
     } else {
         Written::Refused(Refusal::OutOfRange)
     }
