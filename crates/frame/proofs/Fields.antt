@@ -7,7 +7,7 @@ use mathlib.Core.Path.{_≡_, refl}
 use native.Mathlib.Omega.{arith}
 use lib.Dec.{ltb, leb, eqb}
 use borrow.Author.Tests.{ltb-true, eqb-true, le-leb, lt-leb}
-use Rattle.frame.specs.Fields.{controlOf, ctrleOf, meaningOf, fieldsOf, fieldsMeaning}
+use Rattle.frame.specs.Fields.{controlOf, isControl, ctrleOf, meaningOf, fieldsOf, fieldsMeaning}
 use Rattle.frame.specs.declared.Meaning.{Meaning}
 use Rattle.octets.proofs.Below.{and-true, at-below, implies, implied, beq-true}
 use Rattle.octets.proofs.Split.{firsts}
@@ -17,14 +17,10 @@ use Rattle.octets.specs.Word.{wordAt, high, low}
 
 -- from octets to their fields and back
 
--- bit 6 is 0, bit 4 is 1 and bits 1 and 0 are 00: what bits the other fields leave
-abbrev pub fixedBits : ℕ → Bool
-fixedBits c = eqb (c / 64 % 2) 0 && eqb (c / 16 % 2) 1 && eqb (c % 4) 0
-
-pub control-back : (c t s d : ℕ) → c < 256 → fixedBits c ≡ true → controlOf (meaningOf c t s d) ≡ c
-unfolding controlOf
+pub control-back : (c t s d : ℕ) → c < 256 → isControl c ≡ true → controlOf (meaningOf c t s d) ≡ c
+unfolding controlOf isControl
 control-back c t s d h e =
-    eqb-true _ _ (implied _ _ (at-below (λ c. implies (fixedBits c) (eqb (weigh (not (ltb c 128)) 128 + weigh (eqb (c / 32 % 2) 1) 32 + 16 + c / 4 % 4 % 4 * 4) c)) 256 c refl h) e)
+    eqb-true _ _ (implied _ _ (at-below (λ c. implies (isControl c) (eqb (weigh (not (ltb c 128)) 128 + weigh (eqb (c / 32 % 2) 1) 32 + 16 + c / 4 % 4 % 4 * 4) c)) 256 c refl h) e)
 
 pub ctrle-back : (c t s d : ℕ) → t < 256 → ctrleOf (meaningOf c t s d) (t % 16) ≡ t
 unfolding ctrleOf
@@ -36,9 +32,10 @@ ctrle-back c t s d h = eqb-true _ _ (at-below (λ t. eqb (weigh (leb 128 t) 128 
 abbrev controlTest : Bool → Bool → ℕ → Bool
 controlTest e f p =
     let c = weigh (not e) 128 + weigh f 32 + 16 + p % 4 * 4 in
-    fixedBits c && Bool·beq (ltb c 128) e && Bool·beq (eqb (c / 32 % 2) 1) f && eqb (c / 4 % 4) p && ltb c 256
+    isControl c && Bool·beq (ltb c 128) e && Bool·beq (eqb (c / 32 % 2) 1) f && eqb (c / 4 % 4) p && ltb c 256
 
 control-test : (e f : Bool) (p : ℕ) → p < 4 → controlTest e f p ≡ true
+unfolding isControl
 control-test true true p h = at-below (controlTest true true) 4 p refl h
 control-test true false p h = at-below (controlTest true false) 4 p refl h
 control-test false true p h = at-below (controlTest false true) 4 p refl h
@@ -51,7 +48,7 @@ pub record Says (c : ℕ) (m : Meaning) : Type 0 where
   pub priority : c / 4 % 4 ≡ m .priority
 
 pub record ControlFields (m : Meaning) : Type 0 where
-  pub fixed : fixedBits (controlOf m) ≡ true
+  pub control : isControl (controlOf m) ≡ true
   pub says : Says (controlOf m) m
   pub octet : controlOf m < 256
 
@@ -62,7 +59,7 @@ control-fields m h =
     let b = and-true _ _ (a .0) in
     let d = and-true _ _ (b .0) in
     let e = and-true _ _ (d .0) in
-    record { fixed = e .0; says = record { extended = beq-true _ _ (e .1); first = beq-true _ _ (d .1); priority = eqb-true _ _ (b .1) }; octet = ltb-true _ _ (a .1) }
+    record { control = e .0; says = record { extended = beq-true _ _ (e .1); first = beq-true _ _ (d .1); priority = eqb-true _ _ (b .1) }; octet = ltb-true _ _ (a .1) }
 
 pub record CtrleFields (m : Meaning) (l : ℕ) : Type 0 where
   pub group : leb 128 (ctrleOf m l) ≡ m .group

@@ -1,2 +1,4 @@
 pub mod Size
 pub mod LayoutLaws
+pub mod Refusals
+pub mod RoundTrip

@@ -10,14 +10,10 @@ use Rattle.octets.specs.Check.{checkOctet}
 use Rattle.frame.specs.declared.Meaning.{Meaning}
 use Rattle.frame.specs.declared.Refusal.the-variants.{TooFew, NotData, OtherFormat, Escape, LeftOver, WrongCheck}
 use Rattle.frame.specs.Order.{Test, _gives_, firstOf, answerBy}
-use Rattle.frame.specs.Fields.{meaningOf, fieldsMeaning}
+use Rattle.frame.specs.Fields.{isControl, meaningOf, fieldsMeaning}
 use Rattle.tp1.specs.declared.Tp1Answer.{Tp1Answer}
 use Rattle.tp1.specs.declared.Tp1Answer.the-variants.{Frame, Refused}
 use Rattle.tp1.specs.Layout.{headOf}
-
--- "Bit 6: 0. .. Bit 4: 1. .. Bits 1 and 0: 00. Anything else isn't a data frame"
-unfoldable pub isControl : ℕ → Bool
-isControl c = eqb (c / 64 % 2) 0 && eqb (c / 16 % 2) 1 && eqb (c % 4) 0
 
 -- "Bit 7: 1 standard, 0 extended"
 unfoldable pub isExtended : List ℕ → Bool

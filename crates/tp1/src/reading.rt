@@ -2,8 +2,9 @@
 ghost use mathlib.Core.Path.{_≡_};
 ghost use Prim.Native.Nat.{_≤_};
 ghost use lib.ListN.{length};
+ghost use Rattle.frame.specs.Fields.{isControl};
 ghost use Rattle.tp1.specs.Layout.{headOf};
-ghost use Rattle.tp1.specs.Reading.{isControl, isExtended, headSize, isOtherFormat, isEscape, frameSize, isChecked, meaningIn, readFrom};
+ghost use Rattle.tp1.specs.Reading.{isExtended, headSize, isOtherFormat, isEscape, frameSize, isChecked, meaningIn, readFrom};
 
 use crate::Tp1Answer;
 use frame::Meaning;

@@ -1,5 +1,5 @@
 use mathlib.Core.Path.{refl}
-use Rattle.tp1.specs.Reading.{isControl}
+use Rattle.frame.specs.Fields.{isControl}
 use Rattle.tp1.proofs.reading.is_control.Statement.{statement}
 use Rattle.tp1.proofs.reading.is_control.Tie as tie
 
