@@ -62,3 +62,7 @@ frame-room m p room n {r₁} {r₂} {r₃} en h e₁ e₂ e₃ =
     let laid₂ : r₂ ≡ (H ++ p) ++ drop (length H + length p) room = e₂ ∙ rw (k, e₁ ∙ laid-front H room (omega arith)) (laid-behind H p room (omega arith)) in
     let size : length (H ++ p ++ (checkOctet (H ++ p) ∷ [])) ≡ suc (length H + length p) = simp length-append (omega arith) in
     e₃ ∙ rw (laid₂, k, take-at (H ++ p) (drop (length H + length p) room) (length H + length p) (length-append H p), size) (set-behind H p room (checkOctet (H ++ p)) fits)
+
+-- the longest frame has 263 octets
+pub octets-most : (m : Meaning) (p : List ℕ) → inRange m (length p) ≡ true → length (tp1Octets m p) ≤ 263
+octets-most m p e = omega (arith, length-octets m p, head-most (m .extended), most-payload m (length p) e)

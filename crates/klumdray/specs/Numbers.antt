@@ -1,0 +1,57 @@
+-- The numbers that cross the surface: include/klumdray.h says the same in its words.
+use Prim.Native.Nat.{ℕ, _+_, _*_, _%_, _^_, _<_}
+use mathlib.Core.Path.{_≡_}
+use mathlib.Core.List.{List}
+use mathlib.Core.Bool.{Bool, _&&_}
+use lib.Dec.{ltb, eqb}
+use Rattle.octets.specs.Octets.{weigh}
+use Rattle.frame.specs.declared.Meaning.{Meaning}
+use Rattle.frame.specs.declared.Written.{Written}
+use Rattle.frame.specs.declared.Written.the-variants.{Put, Refused as Unwritten}
+use Rattle.frame.specs.Refusals.{number}
+use Rattle.frame.specs.Writing.{written, roomAfter}
+use Rattle.tp1.specs.declared.Tp1Answer.{Tp1Answer}
+use Rattle.tp1.specs.declared.Tp1Answer.the-variants.{Frame, Refused}
+
+-- one octet: format (bit 0), repeat flag (1), priority (2 and 3), AT (4), hop count (5 to 7)
+unfoldable pub flagsOf : Meaning → ℕ
+flagsOf m = weigh (m .extended) 1 + weigh (m .first) 2 + m .priority % 4 * 4 + weigh (m .group) 16 + m .count % 8 * 32
+
+-- bits 0 to 7: 0, not a refusal; 8 to 15: that octet; 16 to 31: source; 32 to 47: destination; 48 to 55: the payload's length
+unfoldable pub meaningNumber : Meaning → ℕ → ℕ
+meaningNumber m payload = flagsOf m * 2 ^ 8 + m .source * 2 ^ 16 + m .destination * 2 ^ 32 + payload % 256 * 2 ^ 48
+
+-- a reader's answer; a refusal is its number alone
+abbrev pub tp1Number : Tp1Answer → ℕ → ℕ
+tp1Number (Frame m) payload = meaningNumber m payload
+tp1Number (Refused r) payload = number r
+
+-- format, repeat flag and AT are given as 0 or 1
+unfoldable pub areFlags : ℕ → ℕ → ℕ → Bool
+areFlags extended first group = ltb extended 2 && ltb first 2 && ltb group 2
+
+abbrev pub meaningFrom : ℕ → ℕ → ℕ → ℕ → ℕ → ℕ → ℕ → Meaning
+meaningFrom extended first priority source group destination count = record {
+  extended = eqb extended 1;
+  first = eqb first 1;
+  priority = priority;
+  source = source;
+  group = eqb group 1;
+  destination = destination;
+  count = count;
+}
+
+-- a writer's answer: bits 0 to 7 the refusal's number or 0, bits 8 on the octets written
+abbrev pub writtenNumber : Written → ℕ
+writtenNumber (Put n) = n * 2 ^ 8
+writtenNumber (Unwritten r) = number r
+
+-- a size that its number holds
+abbrev pub Sized : Written → Type 0
+Sized (Put n) = n < 2 ^ 16
+Sized (Unwritten r) = Unit {0}
+
+-- what a writer of the surface answers and leaves in the room: the inner writer's answer, as a number
+pub record WroteNumber (ranged : Bool) (octets room : List ℕ) (answer : ℕ) (after : List ℕ) : Type 0 where
+  pub answered : answer ≡ writtenNumber (written ranged octets room)
+  pub left : after ≡ roomAfter (written ranged octets room) octets room

@@ -1,0 +1,40 @@
+// The surface for C and Rust: numbers and byte slices only. include/klumdray.h documents each call.
+mod numbers;
+
+ghost use mathlib.Core.Path.{_≡_};
+ghost use mathlib.Core.Bool.{_&&_};
+ghost use lib.ListN.{length};
+ghost use Rattle.octets.specs.Check.{checkOctet};
+ghost use Rattle.frame.specs.Valid.{inRange};
+ghost use Rattle.tp1.specs.Layout.{tp1Octets};
+ghost use Rattle.tp1.specs.Reading.{readTp1, payloadIn};
+ghost use Rattle.klumdray.specs.Numbers.{tp1Number, areFlags, meaningFrom, WroteNumber};
+
+#[no_mangle]
+pub extern "C" fn klumdray_check_octet(octets: &[u8]) -> u8
+    ensures { λ r. ⌜ r ≡ checkOctet (now (octets .entry)) ⌝ }
+{
+    octets::check_octet(octets)
+}
+
+#[no_mangle]
+pub extern "C" fn klumdray_tp1_read(octets: &[u8]) -> u64
+    ensures { λ r. ⌜ r ≡ tp1Number (readTp1 (now (octets .entry))) (length (payloadIn (readTp1 (now (octets .entry))) (now (octets .entry)))) ⌝ }
+{
+    let answer = tp1::read(octets);
+    let payload = tp1::payload(answer, octets);
+    numbers::of_tp1(answer, payload.len())
+}
+
+#[no_mangle]
+pub extern "C" fn klumdray_tp1_write(extended: u8, first: u8, priority: u8, source: u16, group: u8, destination: u16, count: u8, payload: &[u8], room: &mut [u8]) -> u64
+    ensures { λ r. ⌜ WroteNumber (areFlags extended first group && inRange (meaningFrom extended first priority source group destination count) (length (now (payload .entry)))) (tp1Octets (meaningFrom extended first priority source group destination count) (now (payload .entry))) (now (room .entry)) r (now (room .exit)) ⌝ }
+{
+    if numbers::are_flags(extended, first, group) {
+        let meaning = numbers::meaning_from(extended, first, priority, source, group, destination, count);
+        let written = tp1::write(meaning, payload, room);
+        numbers::of_written(written)
+    } else {
+        14
+    }
+}
