@@ -69,3 +69,8 @@ readTp1 s = readFrom 0 s
 abbrev pub payloadIn : Tp1Answer → List ℕ → List ℕ
 payloadIn (Frame m) s = take (length s - 1 - headOf (m .extended)) (drop (headOf (m .extended)) s)
 payloadIn (Refused r) s = []
+
+-- where that part starts; an empty one, at the start
+abbrev pub payloadAt : Tp1Answer → List ℕ → ℕ
+payloadAt (Frame m) s = cond (ltb (headOf (m .extended)) (length s)) (headOf (m .extended)) 0
+payloadAt (Refused r) s = 0

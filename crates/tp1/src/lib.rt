@@ -4,10 +4,11 @@ mod writing;
 
 ghost use mathlib.Core.Path.{_≡_};
 ghost use lib.ListN.{length};
+ghost use Rattle.octets.specs.Part.{PartAt};
 ghost use Rattle.frame.specs.Valid.{inRange};
 ghost use Rattle.frame.specs.Writing.{Wrote};
 ghost use Rattle.tp1.specs.Layout.{tp1Octets};
-ghost use Rattle.tp1.specs.Reading.{readTp1, payloadIn};
+ghost use Rattle.tp1.specs.Reading.{readTp1, payloadAt, payloadIn};
 
 use frame::Meaning;
 use frame::Refusal;
@@ -35,7 +36,7 @@ pub fn read(octets: &[u8]) -> Tp1Answer
 // "The payload is handed out as the very octets received, not copied": TPCI onward, as a part of the
 // octets that were read with this answer; empty with a refusal.
 pub fn payload(answer: Tp1Answer, octets: &[u8]) -> &[u8]
-    ensures { λ r. ⌜ now r ≡ payloadIn answer (now (octets .entry)) ⌝ }
+    ensures { λ r. ⌜ PartAt (octets .entry) r (payloadAt answer (now (octets .entry))) (payloadIn answer (now (octets .entry))) ⌝ }
 {
     let Tp1Answer::Frame(meaning) = answer else {
         return &octets[..0];

@@ -4,7 +4,7 @@ use Rattle.klumdray.proofs.klumdray_tp1_read.Tie as tie
 
 returns : tie.Need-returns
 returns c =
-    rw (← c .before .before .read .ensures, ← c .before .payload .ensures) (c .of-tp1 .ensures)
+    rw (← c .before .before .read .ensures, ← c .before .payload .ensures .holds) (c .of-tp1 .ensures)
 
 pub klumdray-tp1-read-spec : {M : Type 1} → statement M
 klumdray-tp1-read-spec =
