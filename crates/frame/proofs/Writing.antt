@@ -47,9 +47,10 @@ unroomed-iff ranged octets room =
 pub put-iff : (ranged : Bool) (octets room : List ℕ) (n : ℕ) → written ranged octets room ≡ Put n ↔ ((ranged ≡ true) × ((length octets ≤ length room) × (length octets ≡ n)))
 unfolding written
 put-iff ranged octets room n =
-    let w = answer-iff Refused refused-apart (writeTests ranged octets room) (Put (length octets)) (Put n) (put-refused n) in
-    ((λ e. let x = w .0 e in (not-false ranged (x .0 .0), (ltb-false _ _ (x .0 .1 .0), cc))),
-    λ e. w .1 ((ap not (e .0), (le-ltb _ _ (e .1 .0), tt)), ap Put (e .1 .1)))
+    let w = answer-iff Refused refused-apart (writeTests ranged octets room) (Put (length octets)) (Put n) (put-refused n) in (
+      (λ e. let x = w .0 e in (not-false ranged (x .0 .0), (ltb-false _ _ (x .0 .1 .0), cc))),
+      λ e. w .1 ((ap not (e .0), (le-ltb _ _ (e .1 .0), tt)), ap Put (e .1 .1)),
+    )
 
 -- the octets at the front of the room are the frame
 pub written-front : (ranged : Bool) (octets room after : List ℕ) (n : ℕ) → Wrote ranged octets room (Put n) after → (ranged ≡ true) × (take n after ≡ octets)

@@ -109,13 +109,22 @@ pub fn fields_meaning(octets: &[u8]) -> Meaning
 {
     let source = octets::word_at(octets, 2);
     let destination = octets::word_at(octets, 4);
-    meaning_of(octets::octet(octets, 0), octets::octet(octets, 1), source, destination)
+    meaning_of(
+        octets::octet(octets, 0),
+        octets::octet(octets, 1),
+        source,
+        destination,
+    )
 }
 
 // Whether priority, hop count and the payload's length are ones that the format has.
 pub fn in_range(meaning: Meaning, payload: usize) -> bool
     ensures { λ r. ⌜ r ≡ inRange meaning payload ⌝ }
 {
-    let fits = if meaning.extended { payload <= 255 } else { payload <= 16 };
+    let fits = if meaning.extended {
+        payload <= 255
+    } else {
+        payload <= 16
+    };
     (meaning.priority < 4) & (meaning.count < 8) & (1 <= payload) & fits
 }

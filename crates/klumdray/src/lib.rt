@@ -27,11 +27,29 @@ pub extern "C" fn klumdray_tp1_read(octets: &[u8]) -> u64
 }
 
 #[no_mangle]
-pub extern "C" fn klumdray_tp1_write(extended: u8, first: u8, priority: u8, source: u16, group: u8, destination: u16, count: u8, payload: &[u8], room: &mut [u8]) -> u64
+pub extern "C" fn klumdray_tp1_write(
+    extended: u8,
+    first: u8,
+    priority: u8,
+    source: u16,
+    group: u8,
+    destination: u16,
+    count: u8,
+    payload: &[u8],
+    room: &mut [u8],
+) -> u64
     ensures { λ r. ⌜ WroteNumber (areFlags extended first group && inRange (meaningFrom extended first priority source group destination count) (length (now (payload .entry)))) (tp1Octets (meaningFrom extended first priority source group destination count) (now (payload .entry))) (now (room .entry)) r (now (room .exit)) ⌝ }
 {
     if numbers::are_flags(extended, first, group) {
-        let meaning = numbers::meaning_from(extended, first, priority, source, group, destination, count);
+        let meaning = numbers::meaning_from(
+            extended,
+            first,
+            priority,
+            source,
+            group,
+            destination,
+            count,
+        );
         let written = tp1::write(meaning, payload, room);
         numbers::of_written(written)
     } else {

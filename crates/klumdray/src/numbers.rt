@@ -2,7 +2,6 @@
 ghost use mathlib.Core.Path.{_≡_};
 ghost use Prim.Native.Nat.{_<_};
 ghost use Rattle.klumdray.specs.Numbers.{flagsOf, meaningNumber, tp1Number, areFlags, meaningFrom, writtenNumber, Sized};
-
 use frame::Meaning;
 use frame::Written;
 use tp1::Tp1Answer;
@@ -12,7 +11,11 @@ fn flags_of(meaning: Meaning) -> u8
 {
     let priority = meaning.priority % 4;
     let count = meaning.count % 8;
-    octets::flag(meaning.extended, 1) + octets::flag(meaning.first, 2) + priority * 4 + octets::flag(meaning.group, 16) + count * 32
+    octets::flag(meaning.extended, 1)
+        + octets::flag(meaning.first, 2)
+        + priority * 4
+        + octets::flag(meaning.group, 16)
+        + count * 32
 }
 
 fn of_meaning(meaning: Meaning, payload: usize) -> u64
@@ -20,7 +23,10 @@ fn of_meaning(meaning: Meaning, payload: usize) -> u64
 {
     let flags = flags_of(meaning);
     let length = (payload % 256) as u64;
-    flags as u64 * 256 + meaning.source as u64 * 65536 + meaning.destination as u64 * 4294967296 + length * 281474976710656
+    flags as u64 * 256
+        + meaning.source as u64 * 65536
+        + meaning.destination as u64 * 4294967296
+        + length * 281474976710656
 }
 
 pub(crate) fn of_tp1(answer: Tp1Answer, payload: usize) -> u64
@@ -38,7 +44,15 @@ pub(crate) fn are_flags(extended: u8, first: u8, group: u8) -> bool
     (extended < 2) & (first < 2) & (group < 2)
 }
 
-pub(crate) fn meaning_from(extended: u8, first: u8, priority: u8, source: u16, group: u8, destination: u16, count: u8) -> Meaning
+pub(crate) fn meaning_from(
+    extended: u8,
+    first: u8,
+    priority: u8,
+    source: u16,
+    group: u8,
+    destination: u16,
+    count: u8,
+) -> Meaning
     ensures { λ r. ⌜ r ≡ meaningFrom extended first priority source group destination count ⌝ }
 {
     Meaning {

@@ -9,7 +9,6 @@ ghost use Rattle.frame.specs.Valid.{inRange};
 ghost use Rattle.frame.specs.Writing.{Wrote};
 ghost use Rattle.tp1.specs.Layout.{tp1Octets};
 ghost use Rattle.tp1.specs.Reading.{readTp1, payloadAt, payloadIn};
-
 use frame::Meaning;
 use frame::Refusal;
 use frame::Written;

@@ -5,7 +5,6 @@ ghost use lib.ListN.{length};
 ghost use Rattle.frame.specs.Fields.{isControl};
 ghost use Rattle.tp1.specs.Layout.{headOf};
 ghost use Rattle.tp1.specs.Reading.{isExtended, headSize, isOtherFormat, isEscape, frameSize, isChecked, meaningIn, readFrom};
-
 use crate::Tp1Answer;
 use frame::Meaning;
 use frame::Refusal;
@@ -68,7 +67,12 @@ fn meaning_in(octets: &[u8]) -> Meaning
     } else {
         let source = octets::word_at(octets, 1);
         let destination = octets::word_at(octets, 3);
-        frame::meaning_of(octets::octet(octets, 0), octets::octet(octets, 5), source, destination)
+        frame::meaning_of(
+            octets::octet(octets, 0),
+            octets::octet(octets, 5),
+            source,
+            destination,
+        )
     }
 }
 

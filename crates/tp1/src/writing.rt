@@ -8,7 +8,6 @@ ghost use Rattle.octets.specs.Check.{checkOctet};
 ghost use Rattle.octets.specs.Room.{laid, over};
 ghost use Rattle.frame.specs.Valid.{inRange};
 ghost use Rattle.tp1.specs.Layout.{standardHead, extendedHead, head, headOf, tp1Octets};
-
 use frame::Meaning;
 
 fn put_standard_head(meaning: Meaning, lg: u8, room: &mut [u8])
