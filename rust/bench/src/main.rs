@@ -1,0 +1,17 @@
+//! Times of the proved library beside the reference: same inputs, same run, as ratios.
+
+mod measure;
+mod tp1;
+
+fn main() {
+    println!("Proved library beside the reference in Rust, both built for release.");
+    println!("Both are real calls: the library's through its C surface, the reference's through");
+    println!("functions that are never inlined. Batches alternate between the two; a time is the");
+    println!("median of the batches, for one call. Rooms are not cleared between calls.");
+    if !cfg!(target_arch = "x86_64") {
+        println!("NOT A MEASUREMENT: the library's code is for x86-64, and this machine is not.");
+    }
+    println!();
+    measure::print_heading();
+    tp1::rows();
+}

@@ -1,0 +1,34 @@
+//! Safe calls over the proved library `libklumdray.a`.
+//!
+//! Each call gives what document 01 says, for every input: a frame's meaning with its payload as
+//! a part of the caller's octets, or a [`Refusal`] with its number in that paper.
+//!
+//! ```
+//! let octets = [0xbc, 0, 0, 0x12, 0x34, 0xb4, 0x00, 0x80, 0x56, 0x78, 0x9a, 0xe5];
+//! let frame = klumdray::tp1::read(&octets)?;
+//! assert_eq!(frame.meaning.destination, 0x1234);
+//! assert_eq!(frame.payload(), [0x00, 0x80, 0x56, 0x78, 0x9a]);
+//! # Ok::<(), klumdray::Refusal>(())
+//! ```
+#![deny(unsafe_code)]
+#![warn(missing_docs)]
+
+mod answer;
+mod meaning;
+#[allow(unsafe_code)]
+pub mod raw;
+mod refusal;
+pub mod tp1;
+
+pub use meaning::Meaning;
+pub use refusal::Refusal;
+
+/// The check octet: the ones' complement of the exclusive or of all octets given.
+///
+/// ```
+/// assert_eq!(klumdray::check_octet(&[]), 0xff);
+/// assert_eq!(klumdray::check_octet(&[0xb0, 0xaf, 0xfe, 0, 0, 0xe1, 0x01, 0x00]), 0xfe);
+/// ```
+pub fn check_octet(octets: &[u8]) -> u8 {
+    raw::check_octet(octets)
+}

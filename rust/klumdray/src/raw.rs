@@ -1,0 +1,96 @@
+//! The library's own surface, numbers in and numbers out, as `include/klumdray.h` documents it.
+//!
+//! Every number may be given here, in its range or not. The calls of the other modules say the
+//! same with types.
+
+/// The numbers that a writer is given; one outside its range draws 14.
+#[derive(Clone, Copy, Debug, PartialEq, Eq)]
+pub struct Numbers {
+    /// 0 standard, 1 extended.
+    pub extended: u8,
+    /// The repeat flag: 1 first sending, 0 repeated.
+    pub first_sending: u8,
+    /// The two priority bits, 0 to 3.
+    pub priority: u8,
+    /// The source address.
+    pub source: u16,
+    /// AT: 1 group, 0 individual.
+    pub group: u8,
+    /// The destination address.
+    pub destination: u16,
+    /// The hop count, 0 to 7.
+    pub count: u8,
+}
+
+extern "C" {
+    fn klumdray_check_octet(octets: *const u8, n: usize) -> u8;
+    fn klumdray_tp1_read(octets: *const u8, n: usize) -> u64;
+    fn klumdray_tp1_write(
+        extended: u8,
+        first_sending: u8,
+        priority: u8,
+        source: u16,
+        group: u8,
+        destination: u16,
+        count: u8,
+        payload: *const u8,
+        n: usize,
+        room: *mut u8,
+        m: usize,
+    ) -> u64;
+}
+
+/// The check octet of the octets given.
+///
+/// ```
+/// assert_eq!(klumdray::raw::check_octet(&[0x0f]), 0xf0);
+/// ```
+#[inline]
+pub fn check_octet(octets: &[u8]) -> u8 {
+    // SAFETY: the library reads the n octets lent and keeps nothing.
+    unsafe { klumdray_check_octet(octets.as_ptr(), octets.len()) }
+}
+
+/// A TP1 reader's answer as one number: bits 0 to 7 are the refusal's number, 0 if accepted.
+///
+/// ```
+/// assert_eq!(klumdray::raw::tp1_read(&[]), 1);
+/// assert_eq!(klumdray::raw::tp1_read(&[0xcc]), 2);
+/// ```
+#[inline]
+pub fn tp1_read(octets: &[u8]) -> u64 {
+    // SAFETY: the library reads the n octets lent and keeps nothing.
+    unsafe { klumdray_tp1_read(octets.as_ptr(), octets.len()) }
+}
+
+/// A TP1 writer's answer: bits 0 to 7 the number, bits 8 to 63 the octets written.
+///
+/// ```
+/// let numbers = klumdray::raw::Numbers {
+///     extended: 0, first_sending: 1, priority: 3,
+///     source: 0, group: 1, destination: 0x1234, count: 3,
+/// };
+/// let mut room = [0; 8];
+/// assert_eq!(klumdray::raw::tp1_write(&numbers, &[0], &mut room), 8 << 8);
+/// assert_eq!(klumdray::raw::tp1_write(&numbers, &[], &mut room), 14);
+/// ```
+#[inline]
+pub fn tp1_write(numbers: &Numbers, payload: &[u8], room: &mut [u8]) -> u64 {
+    // SAFETY: the library reads the payload and writes the room within the lengths lent, which
+    // Rust's borrow keeps apart, and keeps neither.
+    unsafe {
+        klumdray_tp1_write(
+            numbers.extended,
+            numbers.first_sending,
+            numbers.priority,
+            numbers.source,
+            numbers.group,
+            numbers.destination,
+            numbers.count,
+            payload.as_ptr(),
+            payload.len(),
+            room.as_mut_ptr(),
+            room.len(),
+        )
+    }
+}

@@ -1,0 +1,82 @@
+use std::fmt;
+
+/// A refusal, known by its number in document 01's table.
+///
+/// ```
+/// use klumdray::Refusal;
+/// let refusal = klumdray::tp1::read(&[0xcc]).unwrap_err();
+/// assert_eq!(refusal, Refusal::ANOTHER_KIND);
+/// assert_eq!(refusal.number(), 2);
+/// assert_eq!(refusal.to_string(), "refused 2: TP1 control octet of another kind");
+/// ```
+#[derive(Clone, Copy, Debug, PartialEq, Eq, PartialOrd, Ord, Hash)]
+pub struct Refusal(u8);
+
+impl Refusal {
+    /// Fewer octets than the frame needs.
+    pub const TOO_FEW: Refusal = Refusal(1);
+    /// TP1 control octet of another kind.
+    pub const ANOTHER_KIND: Refusal = Refusal(2);
+    /// EFF not 0000.
+    pub const EFF: Refusal = Refusal(3);
+    /// LG octet 255.
+    pub const ESCAPE: Refusal = Refusal(4);
+    /// Octets left after the frame.
+    pub const OCTETS_LEFT: Refusal = Refusal(5);
+    /// Wrong check octet.
+    pub const CHECK_OCTET: Refusal = Refusal(6);
+    /// Message code not 11h, 2Eh, 29h; in routing, not 29h.
+    pub const MESSAGE_CODE: Refusal = Refusal(7);
+    /// a = 255.
+    pub const INFORMATION: Refusal = Refusal(8);
+    /// cEMI standard with LG above 15.
+    pub const STANDARD_LG: Refusal = Refusal(9);
+    /// KNXnet/IP header length not 06h or version not 10h.
+    pub const HEADER: Refusal = Refusal(10);
+    /// Service not 0530h.
+    pub const SERVICE: Refusal = Refusal(11);
+    /// Total length differs from the datagram's.
+    pub const TOTAL_LENGTH: Refusal = Refusal(12);
+    /// Lent room too small.
+    pub const ROOM: Refusal = Refusal(13);
+    /// A number given by the caller is outside its range.
+    pub const RANGE: Refusal = Refusal(14);
+
+    pub(crate) fn from_number(number: u8) -> Refusal {
+        Refusal(number)
+    }
+
+    /// The number in document 01's table.
+    pub fn number(self) -> u8 {
+        self.0
+    }
+
+    /// The words of document 01's table.
+    pub fn words(self) -> &'static str {
+        match self {
+            Refusal::TOO_FEW => "fewer octets than the frame needs",
+            Refusal::ANOTHER_KIND => "TP1 control octet of another kind",
+            Refusal::EFF => "EFF not 0000",
+            Refusal::ESCAPE => "LG octet 255",
+            Refusal::OCTETS_LEFT => "octets left after the frame",
+            Refusal::CHECK_OCTET => "wrong check octet",
+            Refusal::MESSAGE_CODE => "message code not 11h, 2Eh, 29h; in routing, not 29h",
+            Refusal::INFORMATION => "a = 255",
+            Refusal::STANDARD_LG => "cEMI standard with LG above 15",
+            Refusal::HEADER => "KNXnet/IP header length not 06h or version not 10h",
+            Refusal::SERVICE => "service not 0530h",
+            Refusal::TOTAL_LENGTH => "total length differs from the datagram's",
+            Refusal::ROOM => "lent room too small",
+            Refusal::RANGE => "a number given by the caller is outside its range",
+            _ => "not a number of these calls",
+        }
+    }
+}
+
+impl fmt::Display for Refusal {
+    fn fmt(&self, f: &mut fmt::Formatter<'_>) -> fmt::Result {
+        write!(f, "refused {}: {}", self.number(), self.words())
+    }
+}
+
+impl std::error::Error for Refusal {}

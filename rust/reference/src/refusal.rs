@@ -1,0 +1,30 @@
+//! The table "Refusal numbers" of document 01, as far as frames are concerned.
+
+/// Fewer octets than the frame needs.
+pub const TOO_FEW: u8 = 1;
+/// TP1 control octet of another kind.
+pub const ANOTHER_KIND: u8 = 2;
+/// EFF not 0000.
+pub const EFF_NOT_ZERO: u8 = 3;
+/// LG octet 255.
+pub const LG_ESCAPE: u8 = 4;
+/// Octets left after the frame.
+pub const OCTETS_LEFT: u8 = 5;
+/// Wrong check octet.
+pub const WRONG_CHECK: u8 = 6;
+/// Message code not 11h, 2Eh, 29h; in routing, not 29h.
+pub const MESSAGE_CODE: u8 = 7;
+/// a = 255.
+pub const INFORMATION_ESCAPE: u8 = 8;
+/// cEMI standard with LG above 15.
+pub const STANDARD_LG: u8 = 9;
+/// KNXnet/IP header length not 06h or version not 10h.
+pub const HEADER: u8 = 10;
+/// Service not 0530h.
+pub const SERVICE: u8 = 11;
+/// Total length differs from the datagram's.
+pub const TOTAL_LENGTH: u8 = 12;
+/// Lent room too small.
+pub const ROOM: u8 = 13;
+/// A number given by the caller is outside its range.
+pub const RANGE: u8 = 14;

@@ -1,0 +1,125 @@
+/*
+ * The x86-64 side: a program around the proved library, which runs under the kit's emulator and
+ * does one call for each request on its standard input. It has no C library, since a machine of
+ * another kind has none for x86-64.
+ */
+#include "call.h"
+
+typedef __UINT8_TYPE__ uint8_t;
+typedef __UINT16_TYPE__ uint16_t;
+typedef __UINT64_TYPE__ uint64_t;
+typedef __SIZE_TYPE__ size_t;
+
+uint8_t klumdray_check_octet(const uint8_t *octets, size_t n);
+uint64_t klumdray_tp1_read(const uint8_t *octets, size_t n);
+uint64_t klumdray_tp1_write(uint8_t extended, uint8_t first_sending, uint8_t priority,
+                            uint16_t source, uint8_t group, uint16_t destination, uint8_t count,
+                            const uint8_t *payload, size_t n, uint8_t *room, size_t m);
+
+__asm__(".globl _start\n_start:\n xorl %ebp, %ebp\n andq $-16, %rsp\n call serve\n");
+
+enum { READ = 0, WRITE = 1, EXIT = 60 };
+
+static long kernel(long number, long first, void *second, long third)
+{
+    long answer;
+    __asm__ volatile("syscall"
+                     : "=a"(answer)
+                     : "a"(number), "D"(first), "S"(second), "d"(third)
+                     : "rcx", "r11", "memory");
+    return answer;
+}
+
+/* Compiled code calls these four wherever it finds a loop that does the same. */
+void *memcpy(void *to, const void *from, size_t n)
+{
+    for (size_t i = 0; i < n; i++)
+        ((uint8_t *)to)[i] = ((const uint8_t *)from)[i];
+    return to;
+}
+
+void *memmove(void *to, const void *from, size_t n)
+{
+    if ((uint8_t *)to <= (const uint8_t *)from)
+        return memcpy(to, from, n);
+    while (n-- > 0)
+        ((uint8_t *)to)[n] = ((const uint8_t *)from)[n];
+    return to;
+}
+
+void *memset(void *to, int octet, size_t n)
+{
+    for (size_t i = 0; i < n; i++)
+        ((uint8_t *)to)[i] = (uint8_t)octet;
+    return to;
+}
+
+int memcmp(const void *a, const void *b, size_t n)
+{
+    const uint8_t *x = a, *y = b;
+    for (size_t i = 0; i < n; i++)
+        if (x[i] != y[i])
+            return x[i] - y[i];
+    return 0;
+}
+
+static uint8_t request[sizeof(struct head) + MOST_OCTETS];
+static uint8_t answer[sizeof(uint64_t) + MOST_OCTETS];
+
+static uint64_t do_call(const struct head *h, const uint8_t *octets, uint8_t *room)
+{
+    switch (h->call) {
+    case CALL_CHECK_OCTET:
+        return klumdray_check_octet(octets, h->octets);
+    case CALL_TP1_READ:
+        return klumdray_tp1_read(octets, h->octets);
+    case CALL_TP1_WRITE:
+        return klumdray_tp1_write(h->extended, h->first_sending, h->priority, h->source, h->group,
+                                  h->destination, h->count, octets, h->octets, room, h->room);
+    default:
+        kernel(EXIT, 2, 0, 0);
+        return 0;
+    }
+}
+
+static size_t wanted(size_t have)
+{
+    const struct head *h = (const struct head *)request;
+    return have < sizeof *h ? sizeof *h : sizeof *h + h->octets + h->room;
+}
+
+static void receive(void)
+{
+    size_t have = 0;
+    while (have < wanted(have)) {
+        long more = kernel(READ, 0, request + have, (long)(sizeof request - have));
+        if (more <= 0)
+            kernel(EXIT, have == 0 ? 0 : 1, 0, 0);
+        have += (size_t)more;
+    }
+}
+
+static void reply(size_t n)
+{
+    for (size_t sent = 0; sent < n;) {
+        long more = kernel(WRITE, 1, answer + sent, (long)(n - sent));
+        if (more <= 0)
+            kernel(EXIT, 1, 0, 0);
+        sent += (size_t)more;
+    }
+}
+
+void serve(void)
+{
+    for (;;) {
+        receive();
+        const struct head *h = (const struct head *)request;
+        uint8_t *octets = request + sizeof *h;
+        uint8_t *room = answer + sizeof(uint64_t);
+        memcpy(room, octets + h->octets, h->room);
+        uint64_t number = do_call(h, h->null & NULL_OCTETS ? 0 : octets,
+                                  h->null & NULL_ROOM ? 0 : room);
+        memcpy(answer, &number, sizeof number);
+        reply(sizeof number + h->room);
+    }
+}
