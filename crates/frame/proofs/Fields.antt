@@ -1,6 +1,6 @@
 -- The fields of a control octet and of CTRLE, taken apart and put together again. Each fact on one octet is a test computed
 -- over all its values.
-use Prim.Native.Nat.{ℕ, _+_, _*_, _/_, _%_, _<_}
+use Prim.Native.Nat.{ℕ, _+_, _*_, _/_, _%_, _≤_, _<_}
 use mathlib.Core.Bool.{Bool, true, false, not, _&&_, Bool·beq}
 use mathlib.Core.List.{List, _∷_, _++_}
 use mathlib.Core.Path.{_≡_, refl}
@@ -11,6 +11,7 @@ use Rattle.frame.specs.Fields.{controlOf, isControl, ctrleOf, meaningOf,
 use Rattle.frame.specs.declared.Meaning.{Meaning}
 use Rattle.octets.proofs.Below.{and-true, at-below, implies, implied, beq-true}
 use Rattle.octets.proofs.Split.{firsts}
+use Rattle.octets.proofs.Weigh.{weigh-most}
 use Rattle.octets.proofs.Word.{word-back, high-word, low-word}
 use Rattle.octets.specs.Octets.{octetAt, Octets, weigh}
 use Rattle.octets.specs.Word.{wordAt, high, low}
@@ -27,6 +28,10 @@ unfolding ctrleOf
 ctrle-back c t s d h = eqb-true _ _ (at-below (λ t. eqb (weigh (leb 128 t) 128 + t / 16 % 8 % 8 * 16 + t % 16 % 16) t) 256 t refl h)
 
 -- from a meaning to its octets and back
+
+pub control-most : (m : Meaning) → controlOf m ≤ 188
+unfolding controlOf
+control-most m = omega (arith, weigh-most (not (m .extended)) 128, weigh-most (m .first) 32)
 
 -- what is to hold of a control octet that was made of e, f and p
 abbrev controlTest : Bool → Bool → ℕ → Bool

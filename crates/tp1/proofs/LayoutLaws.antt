@@ -6,7 +6,7 @@ use mathlib.Core.Path.{_≡_, refl, sym, ap, _∙_}
 use native.Mathlib.Omega.{arith}
 use lib.ListN.{length, take, drop, set, length-append}
 use lib.Seq.{take-at}
-use Rattle.frame.proofs.Valid.{ranges-of}
+use Rattle.frame.proofs.Valid.{most-payload}
 use Rattle.frame.specs.Valid.{inRange}
 use Rattle.frame.specs.declared.Meaning.{Meaning}
 use Rattle.octets.proofs.Room.{laid-front, laid-behind, set-behind}
@@ -40,13 +40,6 @@ head-most false = omega arith
 pub length-octets : (m : Meaning) (p : List ℕ) → length (tp1Octets m p) ≡ headOf (m .extended) + length p + 1
 unfolding tp1Octets sealed
 length-octets m p = rw (length-append (head m (length p - 1) ++ p), length-append (head m (length p - 1)) p, length-head m (length p - 1))
-
-pub most-payload : (m : Meaning) (k : ℕ) → inRange m k ≡ true → k ≤ 255
-most-payload m k e = go (m .extended) (ranges-of m k e .most)
-  where
-    go : (b : Bool) → k ≤ cond b 255 16 → k ≤ 255
-    go true h = h
-    go false h = omega arith
 
 -- head, payload and check octet, each laid behind the one before, are the frame over the room
 pub frame-room : (m : Meaning) (p room : List ℕ) (n : ℕ) {r₁ r₂ r₃ : List ℕ} → n ≡ headOf (m .extended) → headOf (m .extended) + length p < length room

@@ -1,0 +1,33 @@
+-- Each return rewrites the first two tests by what led there; the rest of the order is `read_information`'s.
+use mathlib.Core.Path.{sym, _∙_}
+use borrow.Author.Needs.{needs}
+use borrow.Author.Tests.{eq-eqb, ne-eqb}
+use Rattle.cemi.specs.Reading.{readInformation, readCemi}
+use Rattle.cemi.proofs.read.Statement.{statement}
+use Rattle.cemi.proofs.read.Tie as tie
+
+returns : tie.Need-returns
+unfolding readCemi
+returns c =
+    rw (eq-eqb _ _ (c .if1 .taken))
+
+returns-2 : tie.Need-returns-2
+unfolding readCemi readInformation
+returns-2 c =
+    rw (ne-eqb _ _ (c .before .before .before .before .if1 .left), sym (c .before .before .is-read .ensures) ∙ c .before .if2 .taken) (c .read-information .ensures)
+
+returns-3 : tie.Need-returns-3
+unfolding readCemi
+returns-3 c =
+    rw (ne-eqb _ _ (c .before .before .before .if1 .left), sym (c .before .is-read .ensures) ∙ c .if2 .left)
+
+pub read-spec : {M : Type 1} → statement M
+read-spec =
+    tie.close
+    (tie.spec
+    returns
+    (λ c. search needs)
+    (λ c κs. search needs)
+    (λ c κs. search needs)
+    returns-2
+    returns-3)
