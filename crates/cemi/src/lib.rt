@@ -75,11 +75,22 @@ pub fn information(answer: CemiAnswer, octets: &[u8]) -> &[u8]
     }
 }
 
+// Whether the code is read in this place, an error mark stands in a confirmation only, and the rest
+// is in the frame's ranges.
+pub fn in_range(codes: Codes, message: Message, payload: usize) -> bool
+    ensures { λ r. ⌜ r ≡ messageInRange codes message payload ⌝ }
+{
+    let marked = (message.code == 0x2E) | !message.error;
+    let read = reading::is_read(codes, message.code);
+    let meaning = message.meaning;
+    read & marked & frame::in_range(meaning, payload)
+}
+
 // Writes the plain form at the front of the room, or refuses by 14, then 13.
 pub fn write(codes: Codes, message: Message, payload: &[u8], room: &mut [u8]) -> Written
     ensures { λ r. ⌜ Wrote (messageInRange codes message (length (now (payload .entry)))) (plain message (now (payload .entry))) (now (room .entry)) r (now (room .exit)) ⌝ }
 {
-    if writing::in_range(codes, message, payload.len()) {
+    if in_range(codes, message, payload.len()) {
         let size = 9 + payload.len();
         if room.len() < size {
             return Written::Refused(Refusal::SmallRoom);

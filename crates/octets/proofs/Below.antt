@@ -36,3 +36,11 @@ beq-true true true e = refl
 beq-true true false e = sym e
 beq-true false true e = e
 beq-true false false e = refl
+
+-- a test that holds of both truth values
+abbrev pub allBools : (Bool → Bool) → Bool
+allBools f = f true && f false
+
+pub at-bool : (f : Bool → Bool) (b : Bool) → allBools f ≡ true → f b ≡ true
+at-bool f true e = and-true (f true) (f false) e .0
+at-bool f false e = and-true (f true) (f false) e .1

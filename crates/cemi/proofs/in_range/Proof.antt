@@ -1,7 +1,7 @@
 use borrow.Author.Needs.{needs}
 use Rattle.cemi.specs.Writing.{messageInRange}
-use Rattle.cemi.proofs.writing.in_range.Statement.{statement}
-use Rattle.cemi.proofs.writing.in_range.Tie as tie
+use Rattle.cemi.proofs.in_range.Statement.{statement}
+use Rattle.cemi.proofs.in_range.Tie as tie
 
 returns : tie.Need-returns
 unfolding messageInRange
