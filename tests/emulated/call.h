@@ -6,7 +6,15 @@
 #ifndef CALL_H
 #define CALL_H
 
-enum call { CALL_CHECK_OCTET, CALL_TP1_READ, CALL_TP1_WRITE };
+enum call {
+    CALL_CHECK_OCTET,
+    CALL_TP1_READ,
+    CALL_TP1_WRITE,
+    CALL_CEMI_READ,
+    CALL_CEMI_WRITE,
+    CALL_ROUTING_READ,
+    CALL_ROUTING_WRITE
+};
 
 /* A slice of length 0 is lent as the caller lent it: as a null pointer, or not. */
 enum { NULL_OCTETS = 1, NULL_ROOM = 2 };
@@ -26,7 +34,9 @@ struct head {
     __UINT8_TYPE__ priority;
     __UINT8_TYPE__ group;
     __UINT8_TYPE__ count;
-    __UINT8_TYPE__ unused[3];
+    __UINT8_TYPE__ code;
+    __UINT8_TYPE__ error_mark;
+    __UINT8_TYPE__ unused;
 };
 
 #endif

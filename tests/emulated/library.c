@@ -15,6 +15,16 @@ uint64_t klumdray_tp1_read(const uint8_t *octets, size_t n);
 uint64_t klumdray_tp1_write(uint8_t extended, uint8_t first_sending, uint8_t priority,
                             uint16_t source, uint8_t group, uint16_t destination, uint8_t count,
                             const uint8_t *payload, size_t n, uint8_t *room, size_t m);
+uint64_t klumdray_cemi_read(const uint8_t *octets, size_t n);
+uint64_t klumdray_cemi_write(uint8_t code, uint8_t error_mark, uint8_t extended,
+                             uint8_t first_sending, uint8_t priority, uint16_t source,
+                             uint8_t group, uint16_t destination, uint8_t count,
+                             const uint8_t *payload, size_t n, uint8_t *room, size_t m);
+uint64_t klumdray_routing_read(const uint8_t *octets, size_t n);
+uint64_t klumdray_routing_write(uint8_t code, uint8_t error_mark, uint8_t extended,
+                                uint8_t first_sending, uint8_t priority, uint16_t source,
+                                uint8_t group, uint16_t destination, uint8_t count,
+                                const uint8_t *payload, size_t n, uint8_t *room, size_t m);
 
 __asm__(".globl _start\n_start:\n xorl %ebp, %ebp\n andq $-16, %rsp\n call serve\n");
 
@@ -30,7 +40,7 @@ static long kernel(long number, long first, void *second, long third)
     return answer;
 }
 
-/* Compiled code calls these four wherever it finds a loop that does the same. */
+/* Compiled code calls these wherever it finds a loop that does the same. */
 void *memcpy(void *to, const void *from, size_t n)
 {
     for (size_t i = 0; i < n; i++)
@@ -63,6 +73,11 @@ int memcmp(const void *a, const void *b, size_t n)
     return 0;
 }
 
+int bcmp(const void *a, const void *b, size_t n)
+{
+    return memcmp(a, b, n);
+}
+
 static uint8_t request[sizeof(struct head) + MOST_OCTETS];
 static uint8_t answer[sizeof(uint64_t) + MOST_OCTETS];
 
@@ -76,6 +91,18 @@ static uint64_t do_call(const struct head *h, const uint8_t *octets, uint8_t *ro
     case CALL_TP1_WRITE:
         return klumdray_tp1_write(h->extended, h->first_sending, h->priority, h->source, h->group,
                                   h->destination, h->count, octets, h->octets, room, h->room);
+    case CALL_CEMI_READ:
+        return klumdray_cemi_read(octets, h->octets);
+    case CALL_CEMI_WRITE:
+        return klumdray_cemi_write(h->code, h->error_mark, h->extended, h->first_sending,
+                                   h->priority, h->source, h->group, h->destination, h->count,
+                                   octets, h->octets, room, h->room);
+    case CALL_ROUTING_READ:
+        return klumdray_routing_read(octets, h->octets);
+    case CALL_ROUTING_WRITE:
+        return klumdray_routing_write(h->code, h->error_mark, h->extended, h->first_sending,
+                                      h->priority, h->source, h->group, h->destination, h->count,
+                                      octets, h->octets, room, h->room);
     default:
         kernel(EXIT, 2, 0, 0);
         return 0;

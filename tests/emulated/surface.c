@@ -113,3 +113,49 @@ uint64_t klumdray_tp1_write(uint8_t extended, uint8_t first_sending, uint8_t pri
                      .count = count};
     return hand_on(h, payload, n, room, m);
 }
+
+uint64_t klumdray_cemi_read(const uint8_t *octets, size_t n)
+{
+    return hand_on((struct head){.call = CALL_CEMI_READ}, octets, n, NULL, 0);
+}
+
+uint64_t klumdray_cemi_write(uint8_t code, uint8_t error_mark, uint8_t extended,
+                             uint8_t first_sending, uint8_t priority, uint16_t source,
+                             uint8_t group, uint16_t destination, uint8_t count,
+                             const uint8_t *payload, size_t n, uint8_t *room, size_t m)
+{
+    struct head h = {.call = CALL_CEMI_WRITE,
+                     .code = code,
+                     .error_mark = error_mark,
+                     .extended = extended,
+                     .first_sending = first_sending,
+                     .priority = priority,
+                     .source = source,
+                     .group = group,
+                     .destination = destination,
+                     .count = count};
+    return hand_on(h, payload, n, room, m);
+}
+
+uint64_t klumdray_routing_read(const uint8_t *octets, size_t n)
+{
+    return hand_on((struct head){.call = CALL_ROUTING_READ}, octets, n, NULL, 0);
+}
+
+uint64_t klumdray_routing_write(uint8_t code, uint8_t error_mark, uint8_t extended,
+                                uint8_t first_sending, uint8_t priority, uint16_t source,
+                                uint8_t group, uint16_t destination, uint8_t count,
+                                const uint8_t *payload, size_t n, uint8_t *room, size_t m)
+{
+    struct head h = {.call = CALL_ROUTING_WRITE,
+                     .code = code,
+                     .error_mark = error_mark,
+                     .extended = extended,
+                     .first_sending = first_sending,
+                     .priority = priority,
+                     .source = source,
+                     .group = group,
+                     .destination = destination,
+                     .count = count};
+    return hand_on(h, payload, n, room, m);
+}

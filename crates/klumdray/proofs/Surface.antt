@@ -1,15 +1,18 @@
 -- A writer of the surface is the inner writer behind a test of the flags: said once for every format.
-use Prim.Native.Nat.{ℕ, _^_, _<_}
-use mathlib.Core.Bool.{Bool, true, false, _&&_}
+use Prim.Native.Nat.{ℕ, _^_, _≤_, _<_}
+use mathlib.Core.Bool.{Bool, true, false, cond, _&&_}
 use mathlib.Core.List.{List}
 use mathlib.Core.Path.{_≡_, sym, ap, _∙_}
 use native.Mathlib.Omega.{arith}
+use lib.Dec.{eqb}
 use lib.ListN.{length}
 use Rattle.frame.proofs.Writing.{unranged-iff, put-iff}
 use Rattle.frame.specs.Writing.{written, roomAfter, Wrote}
+use Rattle.frame.specs.declared.Meaning.{Meaning}
 use Rattle.frame.specs.declared.Refusal.the-variants.{OutOfRange}
 use Rattle.frame.specs.declared.Written.{Written}
-use Rattle.klumdray.specs.Numbers.{writtenNumber, Sized, WroteNumber}
+use Rattle.klumdray.specs.Numbers.{flagsOf, meaningNumber, codeNumber, writtenNumber, Sized, WroteNumber}
+use Rattle.octets.proofs.Weigh.{weigh-most}
 use Rattle.frame.specs.declared.Written.the-variants.{Put, Refused as Unwritten}
 
 -- a size that is written has a number
@@ -32,3 +35,19 @@ flags-refused flags ranged octets room f =
 -- two outcomes that the contract allows coincide
 pub wrote-number-one : {ranged : Bool} {octets room : List ℕ} {r₁ r₂ : ℕ} {a₁ a₂ : List ℕ} → WroteNumber ranged octets room r₁ a₁ → WroteNumber ranged octets room r₂ a₂ → (r₁ ≡ r₂) × (a₁ ≡ a₂)
 wrote-number-one x y = (x .answered ∙ sym (y .answered), x .left ∙ sym (y .left))
+
+-- an answer's number has 59 bits
+
+pub code-most : (c : ℕ) → codeNumber c ≤ 3
+unfolding codeNumber
+code-most c = go (eqb c 0x11) (eqb c 0x2E) (eqb c 0x29)
+  where
+    go : (a b d : Bool) → cond a 1 (cond b 2 (cond d 3 0)) ≤ 3
+    go true b d = omega arith
+    go false true d = omega arith
+    go false false true = omega arith
+    go false false false = omega arith
+
+pub meaning-below : (m : Meaning) (k : ℕ) → m .source < 2 ^ 16 → m .destination < 2 ^ 16 → meaningNumber m k < 2 ^ 56
+unfolding meaningNumber flagsOf
+meaning-below m k s d = omega (arith, weigh-most (m .extended) 1, weigh-most (m .first) 2, weigh-most (m .group) 16)

@@ -2,7 +2,7 @@
 use Prim.Native.Nat.{ℕ, _+_, _*_, _%_, _^_, _<_}
 use mathlib.Core.Path.{_≡_}
 use mathlib.Core.List.{List}
-use mathlib.Core.Bool.{Bool, _&&_}
+use mathlib.Core.Bool.{Bool, cond, _&&_}
 use lib.Dec.{ltb, eqb}
 use Rattle.octets.specs.Octets.{weigh}
 use Rattle.frame.specs.declared.Meaning.{Meaning}
@@ -12,6 +12,9 @@ use Rattle.frame.specs.Refusals.{number}
 use Rattle.frame.specs.Writing.{written, roomAfter}
 use Rattle.tp1.specs.declared.Tp1Answer.{Tp1Answer}
 use Rattle.tp1.specs.declared.Tp1Answer.the-variants.{Frame, Refused}
+use Rattle.cemi.specs.declared.Message.{Message}
+use Rattle.cemi.specs.declared.CemiAnswer.{CemiAnswer}
+use Rattle.cemi.specs.declared.CemiAnswer.the-variants.{Frame as Message-is, Refused as Message-not}
 
 -- one octet: format (bit 0), repeat flag (1), priority (2 and 3), AT (4), hop count (5 to 7)
 unfoldable pub flagsOf : Meaning → ℕ
@@ -25,6 +28,18 @@ meaningNumber m payload = flagsOf m * 2 ^ 8 + m .source * 2 ^ 16 + m .destinatio
 abbrev pub tp1Number : Tp1Answer → ℕ → ℕ
 tp1Number (Frame m) payload = meaningNumber m payload
 tp1Number (Refused r) payload = number r
+
+-- message codes: 1 request, 2 confirmation, 3 indication
+unfoldable pub codeNumber : ℕ → ℕ
+codeNumber c = cond (eqb c 0x11) 1 (cond (eqb c 0x2E) 2 (cond (eqb c 0x29) 3 0))
+
+-- for cEMI also bits 56 and 57: the message code; bit 58: the error mark
+unfoldable pub messageNumber : Message → ℕ → ℕ
+messageNumber x payload = meaningNumber (x .meaning) payload + (codeNumber (x .code) + weigh (x .error) 4) * 2 ^ 56
+
+abbrev pub cemiNumber : CemiAnswer → ℕ → ℕ
+cemiNumber (Message-is x) payload = messageNumber x payload
+cemiNumber (Message-not r) payload = number r
 
 -- format, repeat flag and AT are given as 0 or 1
 unfoldable pub areFlags : ℕ → ℕ → ℕ → Bool
@@ -40,6 +55,9 @@ meaningFrom extended first priority source group destination count = record {
   destination = destination;
   count = count;
 }
+
+abbrev pub messageFrom : ℕ → ℕ → Meaning → Message
+messageFrom code error m = record { code = code; error = eqb error 1; meaning = m }
 
 -- a writer's answer: bits 0 to 7 the refusal's number or 0, bits 8 on the octets written
 abbrev pub writtenNumber : Written → ℕ

@@ -6,9 +6,17 @@ ghost use mathlib.Core.Bool.{_&&_};
 ghost use lib.ListN.{length};
 ghost use Rattle.octets.specs.Check.{checkOctet};
 ghost use Rattle.frame.specs.Valid.{inRange};
+ghost use lib.Dec.{ltb};
 ghost use Rattle.tp1.specs.Layout.{tp1Octets};
 ghost use Rattle.tp1.specs.Reading.{readTp1, payloadIn};
-ghost use Rattle.klumdray.specs.Numbers.{tp1Number, areFlags, meaningFrom, WroteNumber};
+ghost use Rattle.cemi.specs.declared.Codes.the-variants.{All, IndicationOnly};
+ghost use Rattle.cemi.specs.Layout.{plain};
+ghost use Rattle.cemi.specs.Reading.{readCemi, payloadIn as cemiPayload};
+ghost use Rattle.cemi.specs.Writing.{messageInRange};
+ghost use Rattle.routing.specs.Layout.{routingOctets};
+ghost use Rattle.routing.specs.Reading.{readRouting, routedPayload};
+ghost use Rattle.klumdray.specs.Numbers.{tp1Number, cemiNumber, areFlags, meaningFrom, messageFrom, WroteNumber};
+use cemi::Codes;
 
 #[no_mangle]
 pub extern "C" fn klumdray_check_octet(octets: &[u8]) -> u8
@@ -51,6 +59,94 @@ pub extern "C" fn klumdray_tp1_write(
             count,
         );
         let written = tp1::write(meaning, payload, room);
+        numbers::of_written(written)
+    } else {
+        14
+    }
+}
+
+#[no_mangle]
+pub extern "C" fn klumdray_cemi_read(octets: &[u8]) -> u64
+    ensures { λ r. ⌜ r ≡ cemiNumber (readCemi All (now (octets .entry))) (length (cemiPayload (readCemi All (now (octets .entry))) (now (octets .entry)))) ⌝ }
+{
+    let answer = cemi::read(Codes::All, octets);
+    let payload = cemi::payload(answer, octets);
+    numbers::of_cemi(answer, payload.len())
+}
+
+#[no_mangle]
+pub extern "C" fn klumdray_cemi_write(
+    code: u8,
+    error: u8,
+    extended: u8,
+    first: u8,
+    priority: u8,
+    source: u16,
+    group: u8,
+    destination: u16,
+    count: u8,
+    payload: &[u8],
+    room: &mut [u8],
+) -> u64
+    ensures { λ r. ⌜ WroteNumber ((areFlags extended first group && ltb error 2) && messageInRange All (messageFrom code error (meaningFrom extended first priority source group destination count)) (length (now (payload .entry)))) (plain (messageFrom code error (meaningFrom extended first priority source group destination count)) (now (payload .entry))) (now (room .entry)) r (now (room .exit)) ⌝ }
+{
+    let flags = numbers::are_flags(extended, first, group) & (error < 2);
+    if flags {
+        let meaning = numbers::meaning_from(
+            extended,
+            first,
+            priority,
+            source,
+            group,
+            destination,
+            count,
+        );
+        let message = numbers::message_from(code, error, meaning);
+        let written = cemi::write(Codes::All, message, payload, room);
+        numbers::of_written(written)
+    } else {
+        14
+    }
+}
+
+#[no_mangle]
+pub extern "C" fn klumdray_routing_read(octets: &[u8]) -> u64
+    ensures { λ r. ⌜ r ≡ cemiNumber (readRouting (now (octets .entry))) (length (routedPayload (readRouting (now (octets .entry))) (now (octets .entry)))) ⌝ }
+{
+    let answer = routing::read(octets);
+    let payload = routing::payload(answer, octets);
+    numbers::of_cemi(answer, payload.len())
+}
+
+#[no_mangle]
+pub extern "C" fn klumdray_routing_write(
+    code: u8,
+    error: u8,
+    extended: u8,
+    first: u8,
+    priority: u8,
+    source: u16,
+    group: u8,
+    destination: u16,
+    count: u8,
+    payload: &[u8],
+    room: &mut [u8],
+) -> u64
+    ensures { λ r. ⌜ WroteNumber ((areFlags extended first group && ltb error 2) && messageInRange IndicationOnly (messageFrom code error (meaningFrom extended first priority source group destination count)) (length (now (payload .entry)))) (routingOctets (messageFrom code error (meaningFrom extended first priority source group destination count)) (now (payload .entry))) (now (room .entry)) r (now (room .exit)) ⌝ }
+{
+    let flags = numbers::are_flags(extended, first, group) & (error < 2);
+    if flags {
+        let meaning = numbers::meaning_from(
+            extended,
+            first,
+            priority,
+            source,
+            group,
+            destination,
+            count,
+        );
+        let message = numbers::message_from(code, error, meaning);
+        let written = routing::write(message, payload, room);
         numbers::of_written(written)
     } else {
         14

@@ -1,7 +1,9 @@
 // Answers as the numbers that cross the surface, and a caller's numbers as a meaning.
 ghost use mathlib.Core.Path.{_≡_};
 ghost use Prim.Native.Nat.{_<_};
-ghost use Rattle.klumdray.specs.Numbers.{flagsOf, meaningNumber, tp1Number, areFlags, meaningFrom, writtenNumber, Sized};
+ghost use Rattle.klumdray.specs.Numbers.{flagsOf, meaningNumber, tp1Number, codeNumber, messageNumber, cemiNumber, areFlags, meaningFrom, messageFrom, writtenNumber, Sized};
+use cemi::CemiAnswer;
+use cemi::Message;
 use frame::Meaning;
 use frame::Written;
 use tp1::Tp1Answer;
@@ -38,6 +40,35 @@ pub(crate) fn of_tp1(answer: Tp1Answer, payload: usize) -> u64
     }
 }
 
+fn of_code(code: u8) -> u8
+    ensures { λ r. ⌜ r ≡ codeNumber code ⌝ }
+{
+    if code == 0x11 {
+        return 1;
+    }
+    if code == 0x2E {
+        return 2;
+    }
+    if code == 0x29 { 3 } else { 0 }
+}
+
+fn of_message(message: Message, payload: usize) -> u64
+    ensures { λ r. ⌜ r ≡ messageNumber message payload ⌝ }
+{
+    let meaning = message.meaning;
+    let marks = of_code(message.code) + octets::flag(message.error, 4);
+    of_meaning(meaning, payload) + marks as u64 * 72057594037927936
+}
+
+pub(crate) fn of_cemi(answer: CemiAnswer, payload: usize) -> u64
+    ensures { λ r. ⌜ r ≡ cemiNumber answer payload ⌝ }
+{
+    match answer {
+        CemiAnswer::Frame(message) => of_message(message, payload),
+        CemiAnswer::Refused(refusal) => refusal.number() as u64,
+    }
+}
+
 pub(crate) fn are_flags(extended: u8, first: u8, group: u8) -> bool
     ensures { λ r. ⌜ r ≡ areFlags extended first group ⌝ }
 {
@@ -63,6 +94,16 @@ pub(crate) fn meaning_from(
         group: group == 1,
         destination,
         count,
+    }
+}
+
+pub(crate) fn message_from(code: u8, error: u8, meaning: Meaning) -> Message
+    ensures { λ r. ⌜ r ≡ messageFrom code error meaning ⌝ }
+{
+    Message {
+        code,
+        error: error == 1,
+        meaning,
     }
 }
 

@@ -1,101 +1,168 @@
 -- Every public function: its contract determines its outcome, asks nothing of the caller, and leaves no clause out.
-use mathlib.Core.Path.{_≡_, refl, sym, ap, _∙_}
+use mathlib.Core.Path.{_≡_, refl, sym, _∙_}
 use Rattle.octets.proofs.Part.{part-one}
 use Rattle.frame.proofs.Writing.{wrote-one}
 use Rattle.klumdray.proofs.Surface.{wrote-number-one}
 use Rattle.promises.proofs.Stated.{Stated, StatedBy, SamePart}
-use Rattle.octets.proofs.octet.Kinds as octet-kinds
-use Rattle.octets.proofs.octet.Reads as octet-reads
-use Rattle.octets.proofs.word_at.Kinds as word-at-kinds
-use Rattle.octets.proofs.word_at.Reads as word-at-reads
-use Rattle.octets.proofs.high_octet.Kinds as high-octet-kinds
-use Rattle.octets.proofs.high_octet.Reads as high-octet-reads
-use Rattle.octets.proofs.low_octet.Kinds as low-octet-kinds
-use Rattle.octets.proofs.low_octet.Reads as low-octet-reads
-use Rattle.octets.proofs.flag.Kinds as flag-kinds
-use Rattle.octets.proofs.flag.Reads as flag-reads
-use Rattle.octets.proofs.check_octet.Kinds as check-octet-kinds
-use Rattle.octets.proofs.check_octet.Reads as check-octet-reads
-use Rattle.octets.proofs.lay.Kinds as lay-kinds
-use Rattle.octets.proofs.lay.Reads as lay-reads
-use Rattle.frame.proofs.Refusal.number.Kinds as number-kinds
-use Rattle.frame.proofs.Refusal.number.Reads as number-reads
-use Rattle.frame.proofs.control.Kinds as control-kinds
-use Rattle.frame.proofs.control.Reads as control-reads
-use Rattle.frame.proofs.ctrle.Kinds as ctrle-kinds
-use Rattle.frame.proofs.ctrle.Reads as ctrle-reads
-use Rattle.frame.proofs.meaning_of.Kinds as meaning-of-kinds
-use Rattle.frame.proofs.meaning_of.Reads as meaning-of-reads
-use Rattle.frame.proofs.fields_meaning.Kinds as fields-meaning-kinds
-use Rattle.frame.proofs.fields_meaning.Reads as fields-meaning-reads
-use Rattle.frame.proofs.in_range.Kinds as in-range-kinds
-use Rattle.frame.proofs.in_range.Reads as in-range-reads
-use Rattle.tp1.proofs.read.Kinds as read-kinds
-use Rattle.tp1.proofs.read.Reads as read-reads
-use Rattle.tp1.proofs.payload.Kinds as payload-kinds
-use Rattle.tp1.proofs.payload.Reads as payload-reads
-use Rattle.tp1.proofs.write.Kinds as write-kinds
-use Rattle.tp1.proofs.write.Reads as write-reads
+use Rattle.octets.proofs.octet.Kinds as octets-octet-kinds
+use Rattle.octets.proofs.octet.Reads as octets-octet-reads
+use Rattle.octets.proofs.word_at.Kinds as octets-word-at-kinds
+use Rattle.octets.proofs.word_at.Reads as octets-word-at-reads
+use Rattle.octets.proofs.high_octet.Kinds as octets-high-octet-kinds
+use Rattle.octets.proofs.high_octet.Reads as octets-high-octet-reads
+use Rattle.octets.proofs.low_octet.Kinds as octets-low-octet-kinds
+use Rattle.octets.proofs.low_octet.Reads as octets-low-octet-reads
+use Rattle.octets.proofs.flag.Kinds as octets-flag-kinds
+use Rattle.octets.proofs.flag.Reads as octets-flag-reads
+use Rattle.octets.proofs.check_octet.Kinds as octets-check-octet-kinds
+use Rattle.octets.proofs.check_octet.Reads as octets-check-octet-reads
+use Rattle.octets.proofs.lay.Kinds as octets-lay-kinds
+use Rattle.octets.proofs.lay.Reads as octets-lay-reads
+use Rattle.frame.proofs.Refusal.number.Kinds as frame-number-kinds
+use Rattle.frame.proofs.Refusal.number.Reads as frame-number-reads
+use Rattle.frame.proofs.control.Kinds as frame-control-kinds
+use Rattle.frame.proofs.control.Reads as frame-control-reads
+use Rattle.frame.proofs.ctrle.Kinds as frame-ctrle-kinds
+use Rattle.frame.proofs.ctrle.Reads as frame-ctrle-reads
+use Rattle.frame.proofs.meaning_of.Kinds as frame-meaning-of-kinds
+use Rattle.frame.proofs.meaning_of.Reads as frame-meaning-of-reads
+use Rattle.frame.proofs.fields_meaning.Kinds as frame-fields-meaning-kinds
+use Rattle.frame.proofs.fields_meaning.Reads as frame-fields-meaning-reads
+use Rattle.frame.proofs.in_range.Kinds as frame-in-range-kinds
+use Rattle.frame.proofs.in_range.Reads as frame-in-range-reads
+use Rattle.tp1.proofs.read.Kinds as tp1-read-kinds
+use Rattle.tp1.proofs.read.Reads as tp1-read-reads
+use Rattle.tp1.proofs.payload.Kinds as tp1-payload-kinds
+use Rattle.tp1.proofs.payload.Reads as tp1-payload-reads
+use Rattle.tp1.proofs.write.Kinds as tp1-write-kinds
+use Rattle.tp1.proofs.write.Reads as tp1-write-reads
+use Rattle.cemi.proofs.read.Kinds as cemi-read-kinds
+use Rattle.cemi.proofs.read.Reads as cemi-read-reads
+use Rattle.cemi.proofs.payload.Kinds as cemi-payload-kinds
+use Rattle.cemi.proofs.payload.Reads as cemi-payload-reads
+use Rattle.cemi.proofs.information.Kinds as cemi-information-kinds
+use Rattle.cemi.proofs.information.Reads as cemi-information-reads
+use Rattle.cemi.proofs.in_range.Kinds as cemi-in-range-kinds
+use Rattle.cemi.proofs.in_range.Reads as cemi-in-range-reads
+use Rattle.cemi.proofs.write.Kinds as cemi-write-kinds
+use Rattle.cemi.proofs.write.Reads as cemi-write-reads
+use Rattle.routing.proofs.read_header.Kinds as routing-read-header-kinds
+use Rattle.routing.proofs.read_header.Reads as routing-read-header-reads
+use Rattle.routing.proofs.lay_header.Kinds as routing-lay-header-kinds
+use Rattle.routing.proofs.lay_header.Reads as routing-lay-header-reads
+use Rattle.routing.proofs.read.Kinds as routing-read-kinds
+use Rattle.routing.proofs.read.Reads as routing-read-reads
+use Rattle.routing.proofs.payload.Kinds as routing-payload-kinds
+use Rattle.routing.proofs.payload.Reads as routing-payload-reads
+use Rattle.routing.proofs.information.Kinds as routing-information-kinds
+use Rattle.routing.proofs.information.Reads as routing-information-reads
+use Rattle.routing.proofs.write.Kinds as routing-write-kinds
+use Rattle.routing.proofs.write.Reads as routing-write-reads
 use Rattle.klumdray.proofs.klumdray_check_octet.Kinds as klumdray-check-octet-kinds
 use Rattle.klumdray.proofs.klumdray_check_octet.Reads as klumdray-check-octet-reads
 use Rattle.klumdray.proofs.klumdray_tp1_read.Kinds as klumdray-tp1-read-kinds
 use Rattle.klumdray.proofs.klumdray_tp1_read.Reads as klumdray-tp1-read-reads
 use Rattle.klumdray.proofs.klumdray_tp1_write.Kinds as klumdray-tp1-write-kinds
 use Rattle.klumdray.proofs.klumdray_tp1_write.Reads as klumdray-tp1-write-reads
+use Rattle.klumdray.proofs.klumdray_cemi_read.Kinds as klumdray-cemi-read-kinds
+use Rattle.klumdray.proofs.klumdray_cemi_read.Reads as klumdray-cemi-read-reads
+use Rattle.klumdray.proofs.klumdray_cemi_write.Kinds as klumdray-cemi-write-kinds
+use Rattle.klumdray.proofs.klumdray_cemi_write.Reads as klumdray-cemi-write-reads
+use Rattle.klumdray.proofs.klumdray_routing_read.Kinds as klumdray-routing-read-kinds
+use Rattle.klumdray.proofs.klumdray_routing_read.Reads as klumdray-routing-read-reads
+use Rattle.klumdray.proofs.klumdray_routing_write.Kinds as klumdray-routing-write-kinds
+use Rattle.klumdray.proofs.klumdray_routing_write.Reads as klumdray-routing-write-reads
 
 -- octets
 
-pub octet-stated : Stated octet-kinds.ps octet-kinds.r octet-reads.Pre octet-reads.Post (λ κs a. octet-reads.ensures κs a tt)
-octet-stated = record { determines = λ κs args r₁ r₂ w₁ w₂ x y. (x ∙ sym y, refl); free = λ κs args. tt; whole = λ κs args r e w. refl }
+pub octets-octet-stated : Stated octets-octet-kinds.ps octets-octet-kinds.r octets-octet-reads.Pre octets-octet-reads.Post (λ κs a. octets-octet-reads.ensures κs a tt)
+octets-octet-stated = record { determines = λ κs args r₁ r₂ w₁ w₂ x y. (x ∙ sym y, refl); free = λ κs args. tt; whole = λ κs args r e w. refl }
 
-pub word-at-stated : Stated word-at-kinds.ps word-at-kinds.r word-at-reads.Pre word-at-reads.Post (λ κs a. word-at-reads.ensures κs a tt)
-word-at-stated = record { determines = λ κs args r₁ r₂ w₁ w₂ x y. (x ∙ sym y, refl); free = λ κs args. tt; whole = λ κs args r e w. refl }
+pub octets-word-at-stated : Stated octets-word-at-kinds.ps octets-word-at-kinds.r octets-word-at-reads.Pre octets-word-at-reads.Post (λ κs a. octets-word-at-reads.ensures κs a tt)
+octets-word-at-stated = record { determines = λ κs args r₁ r₂ w₁ w₂ x y. (x ∙ sym y, refl); free = λ κs args. tt; whole = λ κs args r e w. refl }
 
-pub high-octet-stated : Stated high-octet-kinds.ps high-octet-kinds.r high-octet-reads.Pre high-octet-reads.Post (λ κs a. high-octet-reads.ensures κs a tt)
-high-octet-stated = record { determines = λ κs args r₁ r₂ w₁ w₂ x y. (x ∙ sym y, refl); free = λ κs args. tt; whole = λ κs args r e w. refl }
+pub octets-high-octet-stated : Stated octets-high-octet-kinds.ps octets-high-octet-kinds.r octets-high-octet-reads.Pre octets-high-octet-reads.Post (λ κs a. octets-high-octet-reads.ensures κs a tt)
+octets-high-octet-stated = record { determines = λ κs args r₁ r₂ w₁ w₂ x y. (x ∙ sym y, refl); free = λ κs args. tt; whole = λ κs args r e w. refl }
 
-pub low-octet-stated : Stated low-octet-kinds.ps low-octet-kinds.r low-octet-reads.Pre low-octet-reads.Post (λ κs a. low-octet-reads.ensures κs a tt)
-low-octet-stated = record { determines = λ κs args r₁ r₂ w₁ w₂ x y. (x ∙ sym y, refl); free = λ κs args. tt; whole = λ κs args r e w. refl }
+pub octets-low-octet-stated : Stated octets-low-octet-kinds.ps octets-low-octet-kinds.r octets-low-octet-reads.Pre octets-low-octet-reads.Post (λ κs a. octets-low-octet-reads.ensures κs a tt)
+octets-low-octet-stated = record { determines = λ κs args r₁ r₂ w₁ w₂ x y. (x ∙ sym y, refl); free = λ κs args. tt; whole = λ κs args r e w. refl }
 
-pub flag-stated : Stated flag-kinds.ps flag-kinds.r flag-reads.Pre flag-reads.Post (λ κs a. flag-reads.ensures κs a tt)
-flag-stated = record { determines = λ κs args r₁ r₂ w₁ w₂ x y. (x ∙ sym y, refl); free = λ κs args. tt; whole = λ κs args r e w. refl }
+pub octets-flag-stated : Stated octets-flag-kinds.ps octets-flag-kinds.r octets-flag-reads.Pre octets-flag-reads.Post (λ κs a. octets-flag-reads.ensures κs a tt)
+octets-flag-stated = record { determines = λ κs args r₁ r₂ w₁ w₂ x y. (x ∙ sym y, refl); free = λ κs args. tt; whole = λ κs args r e w. refl }
 
-pub check-octet-stated : Stated check-octet-kinds.ps check-octet-kinds.r check-octet-reads.Pre check-octet-reads.Post (λ κs a. check-octet-reads.ensures κs a tt)
-check-octet-stated = record { determines = λ κs args r₁ r₂ w₁ w₂ x y. (x ∙ sym y, refl); free = λ κs args. tt; whole = λ κs args r e w. refl }
+pub octets-check-octet-stated : Stated octets-check-octet-kinds.ps octets-check-octet-kinds.r octets-check-octet-reads.Pre octets-check-octet-reads.Post (λ κs a. octets-check-octet-reads.ensures κs a tt)
+octets-check-octet-stated = record { determines = λ κs args r₁ r₂ w₁ w₂ x y. (x ∙ sym y, refl); free = λ κs args. tt; whole = λ κs args r e w. refl }
 
-pub lay-stated : Stated lay-kinds.ps lay-kinds.r lay-reads.Pre lay-reads.Post (λ κs a. lay-reads.ensures κs a tt)
-lay-stated = record { determines = λ κs args r₁ r₂ w₁ w₂ x y. (refl, λ i. (tt, (tt, ((x ∙ sym y) i, tt)))); free = λ κs args. tt; whole = λ κs args r e w. refl }
+pub octets-lay-stated : Stated octets-lay-kinds.ps octets-lay-kinds.r octets-lay-reads.Pre octets-lay-reads.Post (λ κs a. octets-lay-reads.ensures κs a tt)
+octets-lay-stated = record { determines = λ κs args r₁ r₂ w₁ w₂ x y. (refl, λ i. (tt, (tt, ((x ∙ sym y) i, tt)))); free = λ κs args. tt; whole = λ κs args r e w. refl }
 
 -- frame
 
-pub number-stated : Stated number-kinds.ps number-kinds.r number-reads.Pre number-reads.Post (λ κs a. number-reads.ensures κs a tt)
-number-stated = record { determines = λ κs args r₁ r₂ w₁ w₂ x y. (x ∙ sym y, refl); free = λ κs args. tt; whole = λ κs args r e w. refl }
+pub frame-number-stated : Stated frame-number-kinds.ps frame-number-kinds.r frame-number-reads.Pre frame-number-reads.Post (λ κs a. frame-number-reads.ensures κs a tt)
+frame-number-stated = record { determines = λ κs args r₁ r₂ w₁ w₂ x y. (x ∙ sym y, refl); free = λ κs args. tt; whole = λ κs args r e w. refl }
 
-pub control-stated : Stated control-kinds.ps control-kinds.r control-reads.Pre control-reads.Post (λ κs a. control-reads.ensures κs a tt)
-control-stated = record { determines = λ κs args r₁ r₂ w₁ w₂ x y. (x ∙ sym y, refl); free = λ κs args. tt; whole = λ κs args r e w. refl }
+pub frame-control-stated : Stated frame-control-kinds.ps frame-control-kinds.r frame-control-reads.Pre frame-control-reads.Post (λ κs a. frame-control-reads.ensures κs a tt)
+frame-control-stated = record { determines = λ κs args r₁ r₂ w₁ w₂ x y. (x ∙ sym y, refl); free = λ κs args. tt; whole = λ κs args r e w. refl }
 
-pub ctrle-stated : Stated ctrle-kinds.ps ctrle-kinds.r ctrle-reads.Pre ctrle-reads.Post (λ κs a. ctrle-reads.ensures κs a tt)
-ctrle-stated = record { determines = λ κs args r₁ r₂ w₁ w₂ x y. (x ∙ sym y, refl); free = λ κs args. tt; whole = λ κs args r e w. refl }
+pub frame-ctrle-stated : Stated frame-ctrle-kinds.ps frame-ctrle-kinds.r frame-ctrle-reads.Pre frame-ctrle-reads.Post (λ κs a. frame-ctrle-reads.ensures κs a tt)
+frame-ctrle-stated = record { determines = λ κs args r₁ r₂ w₁ w₂ x y. (x ∙ sym y, refl); free = λ κs args. tt; whole = λ κs args r e w. refl }
 
-pub meaning-of-stated : Stated meaning-of-kinds.ps meaning-of-kinds.r meaning-of-reads.Pre meaning-of-reads.Post (λ κs a. meaning-of-reads.ensures κs a tt)
-meaning-of-stated = record { determines = λ κs args r₁ r₂ w₁ w₂ x y. (x ∙ sym y, refl); free = λ κs args. tt; whole = λ κs args r e w. refl }
+pub frame-meaning-of-stated : Stated frame-meaning-of-kinds.ps frame-meaning-of-kinds.r frame-meaning-of-reads.Pre frame-meaning-of-reads.Post (λ κs a. frame-meaning-of-reads.ensures κs a tt)
+frame-meaning-of-stated = record { determines = λ κs args r₁ r₂ w₁ w₂ x y. (x ∙ sym y, refl); free = λ κs args. tt; whole = λ κs args r e w. refl }
 
-pub fields-meaning-stated : Stated fields-meaning-kinds.ps fields-meaning-kinds.r fields-meaning-reads.Pre fields-meaning-reads.Post (λ κs a. fields-meaning-reads.ensures κs a tt)
-fields-meaning-stated = record { determines = λ κs args r₁ r₂ w₁ w₂ x y. (x ∙ sym y, refl); free = λ κs args. tt; whole = λ κs args r e w. refl }
+pub frame-fields-meaning-stated : Stated frame-fields-meaning-kinds.ps frame-fields-meaning-kinds.r frame-fields-meaning-reads.Pre frame-fields-meaning-reads.Post (λ κs a. frame-fields-meaning-reads.ensures κs a tt)
+frame-fields-meaning-stated = record { determines = λ κs args r₁ r₂ w₁ w₂ x y. (x ∙ sym y, refl); free = λ κs args. tt; whole = λ κs args r e w. refl }
 
-pub in-range-stated : Stated in-range-kinds.ps in-range-kinds.r in-range-reads.Pre in-range-reads.Post (λ κs a. in-range-reads.ensures κs a tt)
-in-range-stated = record { determines = λ κs args r₁ r₂ w₁ w₂ x y. (x ∙ sym y, refl); free = λ κs args. tt; whole = λ κs args r e w. refl }
+pub frame-in-range-stated : Stated frame-in-range-kinds.ps frame-in-range-kinds.r frame-in-range-reads.Pre frame-in-range-reads.Post (λ κs a. frame-in-range-reads.ensures κs a tt)
+frame-in-range-stated = record { determines = λ κs args r₁ r₂ w₁ w₂ x y. (x ∙ sym y, refl); free = λ κs args. tt; whole = λ κs args r e w. refl }
 
 -- tp1
 
-pub read-stated : Stated read-kinds.ps read-kinds.r read-reads.Pre read-reads.Post (λ κs a. read-reads.ensures κs a tt)
-read-stated = record { determines = λ κs args r₁ r₂ w₁ w₂ x y. (x ∙ sym y, refl); free = λ κs args. tt; whole = λ κs args r e w. refl }
+pub tp1-read-stated : Stated tp1-read-kinds.ps tp1-read-kinds.r tp1-read-reads.Pre tp1-read-reads.Post (λ κs a. tp1-read-reads.ensures κs a tt)
+tp1-read-stated = record { determines = λ κs args r₁ r₂ w₁ w₂ x y. (x ∙ sym y, refl); free = λ κs args. tt; whole = λ κs args r e w. refl }
 
-pub payload-stated : StatedBy payload-kinds.ps payload-kinds.r (λ κs. SamePart) payload-reads.Pre payload-reads.Post (λ κs a. payload-reads.ensures κs a tt)
-payload-stated = record { determines = λ κs args r₁ r₂ w₁ w₂ x y. (part-one x y, refl); free = λ κs args. tt; whole = λ κs args r e w. refl }
+pub tp1-payload-stated : StatedBy tp1-payload-kinds.ps tp1-payload-kinds.r (λ κs. SamePart) tp1-payload-reads.Pre tp1-payload-reads.Post (λ κs a. tp1-payload-reads.ensures κs a tt)
+tp1-payload-stated = record { determines = λ κs args r₁ r₂ w₁ w₂ x y. (part-one x y, refl); free = λ κs args. tt; whole = λ κs args r e w. refl }
 
-pub write-stated : Stated write-kinds.ps write-kinds.r write-reads.Pre write-reads.Post (λ κs a. write-reads.ensures κs a tt)
-write-stated = record { determines = λ κs args r₁ r₂ w₁ w₂ x y. let e = wrote-one x y in (e .0, λ i. (tt, (tt, (e .1 i, tt)))); free = λ κs args. tt; whole = λ κs args r e w. refl }
+pub tp1-write-stated : Stated tp1-write-kinds.ps tp1-write-kinds.r tp1-write-reads.Pre tp1-write-reads.Post (λ κs a. tp1-write-reads.ensures κs a tt)
+tp1-write-stated = record { determines = λ κs args r₁ r₂ w₁ w₂ x y. let e = wrote-one x y in (e .0, λ i. (tt, (tt, (e .1 i, tt)))); free = λ κs args. tt; whole = λ κs args r e w. refl }
+
+-- cemi
+
+pub cemi-read-stated : Stated cemi-read-kinds.ps cemi-read-kinds.r cemi-read-reads.Pre cemi-read-reads.Post (λ κs a. cemi-read-reads.ensures κs a tt)
+cemi-read-stated = record { determines = λ κs args r₁ r₂ w₁ w₂ x y. (x ∙ sym y, refl); free = λ κs args. tt; whole = λ κs args r e w. refl }
+
+pub cemi-payload-stated : StatedBy cemi-payload-kinds.ps cemi-payload-kinds.r (λ κs. SamePart) cemi-payload-reads.Pre cemi-payload-reads.Post (λ κs a. cemi-payload-reads.ensures κs a tt)
+cemi-payload-stated = record { determines = λ κs args r₁ r₂ w₁ w₂ x y. (part-one x y, refl); free = λ κs args. tt; whole = λ κs args r e w. refl }
+
+pub cemi-information-stated : StatedBy cemi-information-kinds.ps cemi-information-kinds.r (λ κs. SamePart) cemi-information-reads.Pre cemi-information-reads.Post (λ κs a. cemi-information-reads.ensures κs a tt)
+cemi-information-stated = record { determines = λ κs args r₁ r₂ w₁ w₂ x y. (part-one x y, refl); free = λ κs args. tt; whole = λ κs args r e w. refl }
+
+pub cemi-in-range-stated : Stated cemi-in-range-kinds.ps cemi-in-range-kinds.r cemi-in-range-reads.Pre cemi-in-range-reads.Post (λ κs a. cemi-in-range-reads.ensures κs a tt)
+cemi-in-range-stated = record { determines = λ κs args r₁ r₂ w₁ w₂ x y. (x ∙ sym y, refl); free = λ κs args. tt; whole = λ κs args r e w. refl }
+
+pub cemi-write-stated : Stated cemi-write-kinds.ps cemi-write-kinds.r cemi-write-reads.Pre cemi-write-reads.Post (λ κs a. cemi-write-reads.ensures κs a tt)
+cemi-write-stated = record { determines = λ κs args r₁ r₂ w₁ w₂ x y. let e = wrote-one x y in (e .0, λ i. (tt, (tt, (tt, (e .1 i, tt))))); free = λ κs args. tt; whole = λ κs args r e w. refl }
+
+-- routing
+
+pub routing-read-header-stated : Stated routing-read-header-kinds.ps routing-read-header-kinds.r routing-read-header-reads.Pre routing-read-header-reads.Post (λ κs a. routing-read-header-reads.ensures κs a tt)
+routing-read-header-stated = record { determines = λ κs args r₁ r₂ w₁ w₂ x y. (x ∙ sym y, refl); free = λ κs args. tt; whole = λ κs args r e w. refl }
+
+pub routing-lay-header-stated : Stated routing-lay-header-kinds.ps routing-lay-header-kinds.r routing-lay-header-reads.Pre routing-lay-header-reads.Post (λ κs a. routing-lay-header-reads.ensures κs a tt)
+routing-lay-header-stated = record { determines = λ κs args r₁ r₂ w₁ w₂ x y. (refl, λ i. (tt, (tt, ((x ∙ sym y) i, tt)))); free = λ κs args. tt; whole = λ κs args r e w. refl }
+
+pub routing-read-stated : Stated routing-read-kinds.ps routing-read-kinds.r routing-read-reads.Pre routing-read-reads.Post (λ κs a. routing-read-reads.ensures κs a tt)
+routing-read-stated = record { determines = λ κs args r₁ r₂ w₁ w₂ x y. (x ∙ sym y, refl); free = λ κs args. tt; whole = λ κs args r e w. refl }
+
+pub routing-payload-stated : StatedBy routing-payload-kinds.ps routing-payload-kinds.r (λ κs. SamePart) routing-payload-reads.Pre routing-payload-reads.Post (λ κs a. routing-payload-reads.ensures κs a tt)
+routing-payload-stated = record { determines = λ κs args r₁ r₂ w₁ w₂ x y. (part-one x y, refl); free = λ κs args. tt; whole = λ κs args r e w. refl }
+
+pub routing-information-stated : StatedBy routing-information-kinds.ps routing-information-kinds.r (λ κs. SamePart) routing-information-reads.Pre routing-information-reads.Post (λ κs a. routing-information-reads.ensures κs a tt)
+routing-information-stated = record { determines = λ κs args r₁ r₂ w₁ w₂ x y. (part-one x y, refl); free = λ κs args. tt; whole = λ κs args r e w. refl }
+
+pub routing-write-stated : Stated routing-write-kinds.ps routing-write-kinds.r routing-write-reads.Pre routing-write-reads.Post (λ κs a. routing-write-reads.ensures κs a tt)
+routing-write-stated = record { determines = λ κs args r₁ r₂ w₁ w₂ x y. let e = wrote-one x y in (e .0, λ i. (tt, (tt, (e .1 i, tt)))); free = λ κs args. tt; whole = λ κs args r e w. refl }
 
 -- klumdray
 
@@ -107,3 +174,15 @@ klumdray-tp1-read-stated = record { determines = λ κs args r₁ r₂ w₁ w₂
 
 pub klumdray-tp1-write-stated : Stated klumdray-tp1-write-kinds.ps klumdray-tp1-write-kinds.r klumdray-tp1-write-reads.Pre klumdray-tp1-write-reads.Post (λ κs a. klumdray-tp1-write-reads.ensures κs a tt)
 klumdray-tp1-write-stated = record { determines = λ κs args r₁ r₂ w₁ w₂ x y. let e = wrote-number-one x y in (e .0, λ i. (tt, (tt, (tt, (tt, (tt, (tt, (tt, (tt, (e .1 i, tt)))))))))); free = λ κs args. tt; whole = λ κs args r e w. refl }
+
+pub klumdray-cemi-read-stated : Stated klumdray-cemi-read-kinds.ps klumdray-cemi-read-kinds.r klumdray-cemi-read-reads.Pre klumdray-cemi-read-reads.Post (λ κs a. klumdray-cemi-read-reads.ensures κs a tt)
+klumdray-cemi-read-stated = record { determines = λ κs args r₁ r₂ w₁ w₂ x y. (x ∙ sym y, refl); free = λ κs args. tt; whole = λ κs args r e w. refl }
+
+pub klumdray-cemi-write-stated : Stated klumdray-cemi-write-kinds.ps klumdray-cemi-write-kinds.r klumdray-cemi-write-reads.Pre klumdray-cemi-write-reads.Post (λ κs a. klumdray-cemi-write-reads.ensures κs a tt)
+klumdray-cemi-write-stated = record { determines = λ κs args r₁ r₂ w₁ w₂ x y. let e = wrote-number-one x y in (e .0, λ i. (tt, (tt, (tt, (tt, (tt, (tt, (tt, (tt, (tt, (tt, (e .1 i, tt)))))))))))); free = λ κs args. tt; whole = λ κs args r e w. refl }
+
+pub klumdray-routing-read-stated : Stated klumdray-routing-read-kinds.ps klumdray-routing-read-kinds.r klumdray-routing-read-reads.Pre klumdray-routing-read-reads.Post (λ κs a. klumdray-routing-read-reads.ensures κs a tt)
+klumdray-routing-read-stated = record { determines = λ κs args r₁ r₂ w₁ w₂ x y. (x ∙ sym y, refl); free = λ κs args. tt; whole = λ κs args r e w. refl }
+
+pub klumdray-routing-write-stated : Stated klumdray-routing-write-kinds.ps klumdray-routing-write-kinds.r klumdray-routing-write-reads.Pre klumdray-routing-write-reads.Post (λ κs a. klumdray-routing-write-reads.ensures κs a tt)
+klumdray-routing-write-stated = record { determines = λ κs args r₁ r₂ w₁ w₂ x y. let e = wrote-number-one x y in (e .0, λ i. (tt, (tt, (tt, (tt, (tt, (tt, (tt, (tt, (tt, (tt, (e .1 i, tt)))))))))))); free = λ κs args. tt; whole = λ κs args r e w. refl }

@@ -1,17 +1,28 @@
 //! Times of the proved library beside the reference: same inputs, same run, as ratios.
 
+mod cemi;
+mod inputs;
 mod measure;
+mod routing;
 mod tp1;
 
 fn main() {
     println!("Proved library beside the reference in Rust, both built for release.");
     println!("Both are real calls: the library's through its C surface, the reference's through");
     println!("functions that are never inlined. Batches alternate between the two; a time is the");
-    println!("median of the batches, for one call. Rooms are not cleared between calls.");
+    println!(
+        "median of the batches, for one call. Rooms are not cleared between calls. A read is the"
+    );
+    println!(
+        "answer as each gives it: the library one number, the reference a frame; a read and its"
+    );
+    println!("parts goes through the bindings.");
     if !cfg!(target_arch = "x86_64") {
         println!("NOT A MEASUREMENT: the library's code is for x86-64, and this machine is not.");
     }
     println!();
     measure::print_heading();
     tp1::rows();
+    cemi::rows();
+    routing::rows();
 }

@@ -1,22 +1,12 @@
 //! Rows for TP1: read, read with the payload, write, check octet.
 
+use crate::inputs::{given, numbers, payload, LARGEST};
 use crate::measure::row;
-use klumdray::raw::Numbers;
 use reference::Given;
 use std::hint::black_box;
 
 /// Frames of 8, 23 and 263 octets: format, and octets of payload.
 const FRAMES: [(u8, usize); 3] = [(0, 1), (0, 16), (1, 255)];
-
-const GIVEN: Given = Given {
-    extended: 0,
-    first_sending: 1,
-    priority: 3,
-    source: 0x11fe,
-    group: 1,
-    destination: 0x1234,
-    count: 6,
-};
 
 #[inline(never)]
 fn reference_read(octets: &[u8]) -> Result<reference::tp1::Frame<'_>, u8> {
@@ -35,9 +25,8 @@ fn reference_check_octet(octets: &[u8]) -> u8 {
 
 pub fn rows() {
     for (extended, length) in FRAMES {
-        let given = Given { extended, ..GIVEN };
-        let payload: Vec<u8> = (0..length).map(|place| place as u8).collect();
-        let mut room = [0; 263];
+        let (given, payload) = (given(extended), payload(length));
+        let mut room = [0; LARGEST];
         let size = reference_write(&given, &payload, &mut room).expect("a valid frame");
         let octets = &room[..size];
         read_rows(octets);
@@ -65,16 +54,8 @@ fn read_rows(octets: &[u8]) {
 }
 
 fn write_row(given: &Given, payload: &[u8], size: usize) {
-    let numbers = Numbers {
-        extended: given.extended,
-        first_sending: given.first_sending,
-        priority: given.priority,
-        source: given.source,
-        group: given.group,
-        destination: given.destination,
-        count: given.count,
-    };
-    let (mut proved_room, mut reference_room) = ([0; 263], [0; 263]);
+    let numbers = numbers(given);
+    let (mut proved_room, mut reference_room) = ([0; LARGEST], [0; LARGEST]);
     row(
         &format!("TP1 write, {size} octets"),
         || {

@@ -1,5 +1,6 @@
 //! Takes the library's answers apart, by the bits that `include/klumdray.h` names.
 
+use crate::cemi::Code;
 use crate::{Meaning, Refusal};
 
 /// A reader's answer that is not a refusal.
@@ -7,6 +8,7 @@ use crate::{Meaning, Refusal};
 pub(crate) struct Reading(u64);
 
 impl Reading {
+    #[inline]
     pub(crate) fn accepted(answer: u64) -> Result<Reading, Refusal> {
         match answer as u8 {
             0 => Ok(Reading(answer)),
@@ -14,6 +16,7 @@ impl Reading {
         }
     }
 
+    #[inline]
     pub(crate) fn meaning(self) -> Meaning {
         Meaning {
             extended: self.bit(8),
@@ -26,16 +29,35 @@ impl Reading {
         }
     }
 
+    #[inline]
     pub(crate) fn payload_length(self) -> usize {
         usize::from((self.0 >> 48) as u8)
     }
 
+    /// The message code of a cEMI or routing answer.
+    #[inline]
+    pub(crate) fn code(self) -> Code {
+        match self.0 >> 56 & 3 {
+            1 => Code::Request,
+            2 => Code::Confirmation,
+            3 => Code::Indication,
+            _ => unreachable!("an accepted cEMI frame has a message code"),
+        }
+    }
+
+    #[inline]
+    pub(crate) fn error_mark(self) -> bool {
+        self.bit(58)
+    }
+
+    #[inline]
     fn bit(self, place: u32) -> bool {
         self.0 >> place & 1 == 1
     }
 }
 
 /// The octets written, or the refusal, of a writer's answer.
+#[inline]
 pub(crate) fn written(answer: u64) -> Result<usize, Refusal> {
     match answer as u8 {
         0 => Ok((answer >> 8) as usize),

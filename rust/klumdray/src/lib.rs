@@ -14,10 +14,12 @@
 #![warn(missing_docs)]
 
 mod answer;
+pub mod cemi;
 mod meaning;
 #[allow(unsafe_code)]
 pub mod raw;
 mod refusal;
+pub mod routing;
 pub mod tp1;
 
 pub use meaning::Meaning;
@@ -29,6 +31,7 @@ pub use refusal::Refusal;
 /// assert_eq!(klumdray::check_octet(&[]), 0xff);
 /// assert_eq!(klumdray::check_octet(&[0xb0, 0xaf, 0xfe, 0, 0, 0xe1, 0x01, 0x00]), 0xfe);
 /// ```
+#[inline]
 pub fn check_octet(octets: &[u8]) -> u8 {
     raw::check_octet(octets)
 }

@@ -21,6 +21,7 @@ pub struct Meaning {
 }
 
 impl Meaning {
+    #[inline]
     pub(crate) fn numbers(&self) -> Numbers {
         Numbers {
             extended: self.extended.into(),

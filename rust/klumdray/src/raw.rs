@@ -38,6 +38,38 @@ extern "C" {
         room: *mut u8,
         m: usize,
     ) -> u64;
+    fn klumdray_cemi_read(octets: *const u8, n: usize) -> u64;
+    fn klumdray_cemi_write(
+        code: u8,
+        error_mark: u8,
+        extended: u8,
+        first_sending: u8,
+        priority: u8,
+        source: u16,
+        group: u8,
+        destination: u16,
+        count: u8,
+        payload: *const u8,
+        n: usize,
+        room: *mut u8,
+        m: usize,
+    ) -> u64;
+    fn klumdray_routing_read(octets: *const u8, n: usize) -> u64;
+    fn klumdray_routing_write(
+        code: u8,
+        error_mark: u8,
+        extended: u8,
+        first_sending: u8,
+        priority: u8,
+        source: u16,
+        group: u8,
+        destination: u16,
+        count: u8,
+        payload: *const u8,
+        n: usize,
+        room: *mut u8,
+        m: usize,
+    ) -> u64;
 }
 
 /// The check octet of the octets given.
@@ -80,6 +112,106 @@ pub fn tp1_write(numbers: &Numbers, payload: &[u8], room: &mut [u8]) -> u64 {
     // Rust's borrow keeps apart, and keeps neither.
     unsafe {
         klumdray_tp1_write(
+            numbers.extended,
+            numbers.first_sending,
+            numbers.priority,
+            numbers.source,
+            numbers.group,
+            numbers.destination,
+            numbers.count,
+            payload.as_ptr(),
+            payload.len(),
+            room.as_mut_ptr(),
+            room.len(),
+        )
+    }
+}
+
+/// A cEMI reader's answer as one number: bits 0 to 7 are the refusal's number, 0 if accepted.
+///
+/// ```
+/// assert_eq!(klumdray::raw::cemi_read(&[0x29, 0xff]), 8);
+/// ```
+#[inline]
+pub fn cemi_read(octets: &[u8]) -> u64 {
+    // SAFETY: the library reads the n octets lent and keeps nothing.
+    unsafe { klumdray_cemi_read(octets.as_ptr(), octets.len()) }
+}
+
+/// A cEMI writer's answer: bits 0 to 7 the number, bits 8 to 63 the octets written.
+///
+/// ```
+/// let numbers = klumdray::raw::Numbers {
+///     extended: 0, first_sending: 1, priority: 3,
+///     source: 0, group: 1, destination: 0x1234, count: 4,
+/// };
+/// let mut room = [0; 10];
+/// assert_eq!(klumdray::raw::cemi_write(0x29, 0, &numbers, &[0], &mut room), 10 << 8);
+/// assert_eq!(klumdray::raw::cemi_write(0x29, 1, &numbers, &[0], &mut room), 14);
+/// ```
+#[inline]
+pub fn cemi_write(
+    code: u8,
+    error_mark: u8,
+    numbers: &Numbers,
+    payload: &[u8],
+    room: &mut [u8],
+) -> u64 {
+    // SAFETY: as for `tp1_write`.
+    unsafe {
+        klumdray_cemi_write(
+            code,
+            error_mark,
+            numbers.extended,
+            numbers.first_sending,
+            numbers.priority,
+            numbers.source,
+            numbers.group,
+            numbers.destination,
+            numbers.count,
+            payload.as_ptr(),
+            payload.len(),
+            room.as_mut_ptr(),
+            room.len(),
+        )
+    }
+}
+
+/// A routing reader's answer as one number: bits 0 to 7 are the refusal's number, 0 if accepted.
+///
+/// ```
+/// assert_eq!(klumdray::raw::routing_read(&[0x06, 0x10, 0x05, 0x30, 0x00, 0x07]), 12);
+/// ```
+#[inline]
+pub fn routing_read(octets: &[u8]) -> u64 {
+    // SAFETY: the library reads the n octets lent and keeps nothing.
+    unsafe { klumdray_routing_read(octets.as_ptr(), octets.len()) }
+}
+
+/// A routing writer's answer: bits 0 to 7 the number, bits 8 to 63 the octets written.
+///
+/// ```
+/// let numbers = klumdray::raw::Numbers {
+///     extended: 0, first_sending: 1, priority: 3,
+///     source: 0, group: 1, destination: 0x1234, count: 4,
+/// };
+/// let mut room = [0; 16];
+/// assert_eq!(klumdray::raw::routing_write(0x29, 0, &numbers, &[0], &mut room), 16 << 8);
+/// assert_eq!(klumdray::raw::routing_write(0x11, 0, &numbers, &[0], &mut room), 14);
+/// ```
+#[inline]
+pub fn routing_write(
+    code: u8,
+    error_mark: u8,
+    numbers: &Numbers,
+    payload: &[u8],
+    room: &mut [u8],
+) -> u64 {
+    // SAFETY: as for `tp1_write`.
+    unsafe {
+        klumdray_routing_write(
+            code,
+            error_mark,
             numbers.extended,
             numbers.first_sending,
             numbers.priority,

@@ -42,11 +42,13 @@ impl Refusal {
     /// A number given by the caller is outside its range.
     pub const RANGE: Refusal = Refusal(14);
 
+    #[inline]
     pub(crate) fn from_number(number: u8) -> Refusal {
         Refusal(number)
     }
 
     /// The number in document 01's table.
+    #[inline]
     pub fn number(self) -> u8 {
         self.0
     }

@@ -3,24 +3,27 @@
 mod support;
 
 use support::generator::{seed, Generator};
-use support::{packed_size, Answer, Comparison, Implementation, Reader, Request, Writer};
+use support::{packed_size, Answer, Comparison, Implementation, Kind, Reader, Request, Writer};
+
+/// TP1 has neither message code nor error mark.
+const KIND: Kind = Kind {
+    code: 0,
+    error_mark: 0,
+};
 
 const REFERENCE: Implementation = Implementation {
     read: reference_read,
     write: reference_write,
-    check_octet: reference::check_octet,
 };
 
 const LIBRARY: Implementation = Implementation {
     read: library_read,
     write: library_write,
-    check_octet: klumdray::raw::check_octet,
 };
 
 const BINDINGS: Implementation = Implementation {
     read: bindings_read,
     write: bindings_write,
-    check_octet: klumdray::check_octet,
 };
 
 fn reference_read(octets: &[u8]) -> Answer<'_> {
@@ -28,6 +31,7 @@ fn reference_read(octets: &[u8]) -> Answer<'_> {
         Ok(frame) => Answer {
             packed: Request::from(frame.meaning).packed(frame.payload),
             payload: frame.payload,
+            information: &[],
         },
         Err(number) => Answer::refused(number),
     }
@@ -42,7 +46,11 @@ fn library_read(octets: &[u8]) -> Answer<'_> {
     let start = 6 + (packed >> 8 & 1) as usize;
     let length = (packed >> 48 & 0xff) as usize;
     let payload = octets.get(start..start + length).unwrap_or(&[]);
-    Answer { packed, payload }
+    Answer {
+        packed,
+        payload,
+        information: &[],
+    }
 }
 
 fn library_write(request: &Request, payload: &[u8], room: &mut [u8]) -> u64 {
@@ -54,6 +62,7 @@ fn bindings_read(octets: &[u8]) -> Answer<'_> {
         Ok(frame) => Answer {
             packed: Request::from(frame.meaning).packed(frame.payload()),
             payload: frame.payload(),
+            information: &[],
         },
         Err(refusal) => Answer::refused(refusal.number()),
     }
@@ -135,7 +144,7 @@ fn frames(generator: &mut Generator) -> Vec<Vec<u8>> {
     let standard = (1..=16).map(|length| (0, length));
     let extended = (1..=255).map(|length| (1, length));
     let mut valid = |(format, length)| {
-        let request = Request::valid(generator, format);
+        let request = Request::valid(generator, KIND, format);
         frame(&request, &generator.octets(length))
     };
     standard.chain(extended).map(&mut valid).collect()
@@ -164,8 +173,13 @@ fn around(
     Ok(())
 }
 
-/// Each octet of the head through all 256 values, with and without a mended check octet.
-fn heads(comparison: &mut Comparison, frame: &[u8]) -> Result<(), String> {
+/// Each octet of the head through all 256 values, with and without a mended check octet, and two
+/// of them wrong at once.
+fn heads(
+    comparison: &mut Comparison,
+    generator: &mut Generator,
+    frame: &[u8],
+) -> Result<(), String> {
     for place in 0..7 {
         for value in 0..=255 {
             let mut octets = frame.to_vec();
@@ -174,6 +188,9 @@ fn heads(comparison: &mut Comparison, frame: &[u8]) -> Result<(), String> {
             mend_check(&mut octets);
             comparison.read(&octets)?;
         }
+    }
+    for _ in 0..4 {
+        comparison.pairs(generator, frame, &[0, 1, 2, 3, 4, 5, 6])?;
     }
     Ok(())
 }
@@ -185,17 +202,12 @@ fn compare(
 ) -> Result<Comparison, String> {
     let mut comparison = Comparison::new(proved, reference);
     let generator = &mut Generator::new(seed);
-    for length in 0..=300 {
-        for _ in 0..20 {
-            comparison.check_octet(&generator.octets(length))?;
-        }
-    }
-    comparison.writes(generator, frame_size)?;
+    comparison.writes(generator, &[KIND], frame_size)?;
     for round in 0..6 {
         for (index, frame) in frames(generator).iter().enumerate() {
             around(&mut comparison, generator, frame)?;
             if round == 0 && index % 9 == 0 {
-                heads(&mut comparison, frame)?;
+                heads(&mut comparison, generator, frame)?;
             }
         }
     }
@@ -225,6 +237,24 @@ fn bindings_agree_with_the_reference() {
     assert_agrees("bindings", BINDINGS);
 }
 
+fn check_octets_differ(proved: fn(&[u8]) -> u8, expected: fn(&[u8]) -> u8) -> Option<Vec<u8>> {
+    let mut generator = Generator::new(seed());
+    let mut inputs = (0..=300)
+        .flat_map(|length| [length; 20])
+        .map(|n| generator.octets(n));
+    inputs.find(|octets| proved(octets) != expected(octets))
+}
+
+#[test]
+fn check_octet_agrees_with_the_reference() {
+    let expected = reference::check_octet;
+    assert_eq!(
+        check_octets_differ(klumdray::raw::check_octet, expected),
+        None
+    );
+    assert_eq!(check_octets_differ(klumdray::check_octet, expected), None);
+}
+
 /// A reference with one rule turned round, and the library must be found to differ from it.
 mod wrong {
     use super::*;
@@ -237,6 +267,7 @@ mod wrong {
         Answer {
             packed: answer.packed,
             payload: payload.unwrap_or(&[]),
+            information: &[],
         }
     }
 
@@ -259,6 +290,7 @@ mod wrong {
             Some((_, payload)) => Answer {
                 packed: answer.packed - (1 << 48),
                 payload,
+                information: &[],
             },
             None => answer,
         }
@@ -306,6 +338,20 @@ mod wrong {
             Answer::refused(2)
         } else {
             reference_read(octets)
+        }
+    }
+
+    fn one_before_two(octets: &[u8]) -> Answer<'_> {
+        match reference_read(octets) {
+            answer if answer.number() == 2 && octets.len() < 6 => Answer::refused(1),
+            answer => answer,
+        }
+    }
+
+    fn one_before_four(octets: &[u8]) -> Answer<'_> {
+        match reference_read(octets) {
+            answer if answer.number() == 4 && octets.len() < 264 => Answer::refused(1),
+            answer => answer,
         }
     }
 
@@ -398,7 +444,7 @@ mod wrong {
         !reference::check_octet(octets)
     }
 
-    const READERS: [(&str, Reader); 11] = [
+    const READERS: [(&str, Reader); 13] = [
         ("check octet not tested", check_not_tested),
         ("LG off by one", lg_off_by_one),
         ("LG 254 refused", largest_lg_refused),
@@ -409,6 +455,8 @@ mod wrong {
         ),
         ("repeat flag turned round", repeat_flag_turned),
         ("2 before no octet", control_before_no_octet),
+        ("1 before 2", one_before_two),
+        ("1 before 4", one_before_four),
         ("5 for 1 and 1 for 5", five_for_one),
         ("6 before 5", six_before_five),
         ("4 before 3", four_before_three),
@@ -446,13 +494,8 @@ mod wrong {
 
     #[test]
     fn check_octet_is_noticed() {
-        let check_octet = not_complemented;
-        assert_noticed(
-            "not complemented",
-            Implementation {
-                check_octet,
-                ..REFERENCE
-            },
-        );
+        let proved = klumdray::raw::check_octet;
+        assert!(check_octets_differ(proved, not_complemented).is_some());
+        assert!(check_octets_differ(proved, |octets| octets.len() as u8).is_some());
     }
 }

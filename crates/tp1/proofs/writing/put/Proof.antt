@@ -1,8 +1,8 @@
 -- Head, payload and check octet, laid one behind the other: `frame-room`, whose hypotheses are what the three calls ensure.
 use native.Mathlib.Omega.{arith}
 use borrow.Author.Needs.{needs}
-use Rattle.frame.proofs.Valid.{ranges-of}
-use Rattle.tp1.proofs.LayoutLaws.{head-least, most-payload, frame-room}
+use Rattle.frame.proofs.Valid.{ranges-of, most-payload}
+use Rattle.tp1.proofs.LayoutLaws.{head-least, frame-room}
 use Rattle.tp1.proofs.writing.put.Statement.{statement}
 use Rattle.tp1.proofs.writing.put.Tie as tie
 
