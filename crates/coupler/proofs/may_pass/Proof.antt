@@ -1,0 +1,19 @@
+use borrow.Author.Needs.{needs}
+use Rattle.coupler.specs.Passing.{mayPass}
+use Rattle.coupler.proofs.may_pass.Statement.{statement}
+use Rattle.coupler.proofs.may_pass.Tie as tie
+
+returns : tie.Need-returns
+unfolding mayPass
+returns c =
+    rw (c .before .is-own .ensures, c .before .before .code-in .ensures, c .before .before .before .class-of .ensures .0, c .is-ruled .ensures)
+
+pub may-pass-spec : {M : Type 1} → statement M
+may-pass-spec =
+    tie.close
+    (tie.spec
+    (λ c κs. search needs)
+    (λ c κs. search needs)
+    (λ c κs. search needs)
+    (λ c κs. search needs)
+    returns)

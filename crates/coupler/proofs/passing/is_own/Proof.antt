@@ -1,0 +1,17 @@
+use mathlib.Core.Path.{refl}
+use borrow.Author.Needs.{needs}
+use Rattle.coupler.specs.Passing.{isOwn}
+use Rattle.coupler.proofs.passing.is_own.Statement.{statement}
+use Rattle.coupler.proofs.passing.is_own.Tie as tie
+
+returns : tie.Need-returns
+unfolding isOwn
+returns c =
+    refl
+
+pub is-own-spec : {M : Type 1} → statement M
+is-own-spec =
+    tie.close
+    (tie.spec
+    (λ c. search needs)
+    returns)

@@ -1,0 +1,16 @@
+use borrow.Author.Needs.{needs}
+use Rattle.coupler.specs.Settings.{tableFits}
+use Rattle.coupler.proofs.settings.table_fits.Statement.{statement}
+use Rattle.coupler.proofs.settings.table_fits.Tie as tie
+
+returns : tie.Need-returns
+unfolding tableFits
+returns c =
+    rw (c .asks-table .ensures)
+
+pub table-fits-spec : {M : Type 1} → statement M
+table-fits-spec =
+    tie.close
+    (tie.spec
+    (λ c κs. search needs)
+    returns)

@@ -1,0 +1,4 @@
+pub mod Settings
+pub mod Passing
+pub mod Memory
+pub mod Step

@@ -1,0 +1,38 @@
+-- Document 01: "Between frames each TP1 side remembers the last accepted frame that was received from it, at the start none."
+use Prim.Native.Nat.{ℕ}
+use mathlib.Core.List.{List, []}
+use mathlib.Core.Bool.{Bool, cond, not, _&&_, Bool·beq}
+use lib.ListN.{length, take}
+use lib.Dec.{leb, eqb}
+use Rattle.octets.specs.Room.{over}
+use Rattle.frame.specs.declared.Meaning.{Meaning}
+use Rattle.tp1.specs.Reading.{meaningIn}
+use Rattle.coupler.specs.declared.Remembered.{Remembered}
+use Rattle.coupler.specs.declared.Memory.{Memory}
+
+-- the frame that is remembered; no octets, none
+unfoldable pub recalled : Remembered → List ℕ
+recalled r = cond (leb (r .size) 263) (take (r .size) (r .octets)) []
+
+-- a frame put in the place of the one before
+unfoldable pub remembering : Remembered → List ℕ → Remembered
+remembering r frame = record { size = length frame; octets = over frame (r .octets) }
+
+-- the main side is 0, the sub side 1
+abbrev pub sideOf : Memory → ℕ → Remembered
+sideOf m side = cond (eqb side 0) (m .main) (m .sub)
+
+unfoldable pub rememberedOn : Memory → ℕ → List ℕ → Memory
+rememberedOn m side frame =
+    cond (eqb side 0)
+    record { main = remembering (m .main) frame; sub = m .sub }
+    record { main = m .main; sub = remembering (m .sub) frame }
+
+-- "An accepted frame marked repeated is a repetition if the remembered frame has the same source, destination and AT."
+unfoldable pub isRepetition : List ℕ → Meaning → Bool
+isRepetition frame m =
+    not (eqb (length frame) 0)
+    && not (m .first)
+    && eqb (meaningIn frame .source) (m .source)
+    && eqb (meaningIn frame .destination) (m .destination)
+    && Bool·beq (meaningIn frame .group) (m .group)

@@ -1,0 +1,35 @@
+-- Who may pass: the one place that knows about codes. The step asks it of a frame, the tracer of a query.
+use Prim.Native.Nat.{ℕ, _-_, _*_, _/_, _%_, _^_}
+use mathlib.Core.List.{List}
+use mathlib.Core.Bool.{Bool, cond, not, _&&_, _||_}
+use lib.Dec.{ltb, eqb}
+use Rattle.octets.specs.Octets.{octetAt}
+use Rattle.coupler.specs.Settings.{codeIn, classOf}
+
+-- "whose own address is n followed by 00h"; "A frame with AT 0 to the coupler's own address is for itself"
+unfoldable pub isOwn : ℕ → Bool → ℕ → Bool
+isOwn line group destination = not group && eqb destination (line * 256)
+
+-- "forward if bit g mod 8 of octet g div 8 in the 8,192-octet filter table is one"
+unfoldable pub isListed : List ℕ → ℕ → Bool
+isListed table g = eqb (octetAt table (g / 8) / 2 ^ (g % 8) % 2) 1
+
+-- "where n mod 16 is not 0, down if the destination's high octet is n ..; otherwise down if the destination's area is the coupler's area"
+unfoldable pub isBelow : ℕ → ℕ → Bool
+isBelow line destination = cond (eqb (line % 16) 0) (eqb (destination / 4096) (line / 16)) (eqb (destination / 256) line)
+
+-- what code 1 says: for groups the table, for individual addresses "down if .. is .., up if it isn't"
+unfoldable pub isRuled : ℕ → List ℕ → ℕ → Bool → ℕ → Bool
+isRuled line table direction group destination =
+    cond group (isListed table destination) (cond (eqb direction 0) (isBelow line destination) (not (isBelow line destination)))
+
+-- "Code 0 is closed, 2 open." "A frame .. to the coupler's own address is .. never forwarded, under any code."
+unfoldable pub mayPass : ℕ → List (List ℕ) → List ℕ → ℕ → Bool → ℕ → Bool
+mayPass line codes table direction group destination =
+    not (isOwn line group destination)
+    && (eqb (codeIn codes direction (classOf group destination)) 2
+    || (eqb (codeIn codes direction (classOf group destination)) 1 && isRuled line table direction group destination))
+
+-- the hop rule: 0 stops, 1 to 6 drop by one, 7 stays
+abbrev pub hopped : ℕ → ℕ
+hopped count = cond (eqb count 7) 7 (count - 1)

@@ -1,0 +1,68 @@
+// One coupler step: who may pass, what is forwarded, what is remembered.
+mod forwarding;
+mod remembering;
+mod passing;
+pub mod settings;
+
+ghost use mathlib.Core.Path.{_≡_};
+ghost use lib.ListN.{length};
+ghost use Rattle.coupler.specs.Passing.{mayPass, hopped};
+use frame::Refusal;
+
+// "CCh", or "no acknowledgement".
+pub enum Acknowledgement {
+    Silence,
+    Acknowledged,
+}
+
+// "The step's result: number, acknowledgement or none, for itself or not, octets forwarded (0 if none)."
+pub struct Outcome {
+    pub number: u8,
+    pub acknowledgement: Acknowledgement,
+    pub own: bool,
+    pub forwarded: usize,
+}
+
+// The last accepted frame of a TP1 side; size 0 is none.
+pub struct Remembered {
+    pub size: usize,
+    pub octets: [u8; 263],
+}
+
+pub struct Memory {
+    pub main: Remembered,
+    pub sub: Remembered,
+}
+
+pub struct Stepped {
+    pub outcome: Outcome,
+    pub memory: Memory,
+}
+
+// Whether a coupler lets a telegram to this address pass in this direction (0 main to sub, 1 sub to main).
+pub fn may_pass(
+    line: u8,
+    codes: [[u8; 4]; 2],
+    table: &[u8],
+    direction: u8,
+    group: bool,
+    destination: u16,
+) -> bool
+    ensures { λ r. ⌜ r ≡ mayPass line codes (now (table .entry)) direction group destination ⌝ }
+{
+    let class = passing::class_of(group, destination);
+    let code = settings::code_in(codes, direction, class);
+    let own = passing::is_own(line, group, destination);
+    let ruled = passing::is_ruled(line, table, direction, group, destination);
+    !own & ((code == 2) | ((code == 1) & ruled))
+}
+
+// The count with which a frame is forwarded.
+pub fn hopped_count(count: u8) -> u8
+    ensures { λ r. ⌜ r ≡ hopped count ⌝ }
+{
+    if count == 7 {
+        return 7;
+    }
+    if count == 0 { 0 } else { count - 1 }
+}
