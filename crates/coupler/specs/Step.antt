@@ -9,6 +9,8 @@ use Rattle.octets.specs.Room.{over}
 use Rattle.frame.specs.declared.Meaning.{Meaning}
 use Rattle.frame.specs.declared.Refusal.{Refusal}
 use Rattle.frame.specs.declared.Refusal.the-variants.{WrongSetting, NoTable, OutOfRange, SmallRoom}
+use Rattle.frame.specs.declared.Written.{Written}
+use Rattle.frame.specs.declared.Written.the-variants.{Put, Refused as Unwritten}
 use Rattle.frame.specs.Refusals.{number}
 use Rattle.frame.specs.Order.{Test, _gives_, Verdict, pass, refuse, firstOf}
 use Rattle.tp1.specs.declared.Tp1Answer.{Tp1Answer}
@@ -23,6 +25,8 @@ use Rattle.routing.specs.Reading.{readRouting, routedPayload}
 use Rattle.coupler.specs.declared.Acknowledgement.{Acknowledgement}
 use Rattle.coupler.specs.declared.Acknowledgement.the-variants.{Silence, Acknowledged}
 use Rattle.coupler.specs.declared.Outcome.{Outcome}
+use Rattle.coupler.specs.declared.Judged.{Judged}
+use Rattle.coupler.specs.declared.Judged.the-variants.{Fine, Refused as NotFine}
 use Rattle.coupler.specs.declared.Memory.{Memory}
 use Rattle.coupler.specs.Settings.{areCodes, tableFits}
 use Rattle.coupler.specs.Passing.{isOwn, mayPass, hopped}
@@ -36,6 +40,9 @@ pub record Setting : Type 0 where
   pub side : ℕ
   pub medium : ℕ
 
+abbrev pub settingOf : ℕ → List (List ℕ) → List ℕ → ℕ → ℕ → Setting
+settingOf line codes table side medium = record { line = line; codes = codes; table = table; side = side; medium = medium }
+
 -- "Order: 15, 18 (table length not 8,192, or 0 allowed if no group code is 1), 14 (receiving side 0 main, 1 sub; main medium 0 TP1, 1 IP),
 -- 13 (room below 272), then the reader's."
 abbrev pub settingTests : Setting → ℕ → List Test
@@ -45,6 +52,10 @@ settingTests k room =
     ∷ not (ltb (k .side) 2 && ltb (k .medium) 2) gives OutOfRange
     ∷ ltb room 272 gives SmallRoom
     ∷ []
+
+abbrev pub judgedBy : Verdict → Judged
+judgedBy pass = Fine
+judgedBy (refuse r) = NotFine r
 
 -- "The main side is TP1 or IP; the sub side is TP1."
 abbrev pub fromIp : Setting → Bool
@@ -110,8 +121,20 @@ forwardedMeaning m = record {
 abbrev pub indication : Meaning → Message
 indication m = record { code = 0x29; error = false; meaning = m }
 
-unfoldable pub forwardedOctets : Setting → Meaning → List ℕ → List ℕ
-forwardedOctets k m p = cond (toIp k) (routingOctets (indication (forwardedMeaning m)) p) (tp1Octets (forwardedMeaning m) p)
+unfoldable pub formOf : Bool → Meaning → List ℕ → List ℕ
+formOf ip m p = cond ip (routingOctets (indication (forwardedMeaning m)) p) (tp1Octets (forwardedMeaning m) p)
+
+abbrev pub forwardedOctets : Setting → Meaning → List ℕ → List ℕ
+forwardedOctets k m p = formOf (toIp k) m p
+
+abbrev pub putSize : Written → ℕ
+putSize (Put n) = n
+putSize (Unwritten r) = 0
+
+-- octets that were sent: how many, and the room with them at its front
+pub record Sent (octets room : List ℕ) (size : ℕ) (room′ : List ℕ) : Type 0 where
+  pub count : size ≡ length octets
+  pub left : room′ ≡ over octets room
 
 -- "octets forwarded (0 if none)"
 abbrev pub sentOf : Setting → Bool → Meaning → List ℕ → List ℕ
@@ -129,6 +152,11 @@ acceptedOutcome k repetition m p = record {
 -- "On a refusal: its number, none, not, 0."
 abbrev pub refusedOutcome : Refusal → Outcome
 refusedOutcome r = record { number = number r; acknowledgement = Silence; own = false; forwarded = 0 }
+
+-- what becomes of an accepted frame, and of the room
+pub record PassedOn (k : Setting) (repetition : Bool) (m : Meaning) (p room : List ℕ) (o : Outcome) (room′ : List ℕ) : Type 0 where
+  pub outcome : o ≡ acceptedOutcome k repetition m p
+  pub left : room′ ≡ over (sentOf k repetition m p) room
 
 abbrev pub outcomeOf : Setting → List ℕ → Heard → Outcome
 outcomeOf k remembered (frame m p) = acceptedOutcome k (repeats k remembered m) m p

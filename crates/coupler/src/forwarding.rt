@@ -1,0 +1,214 @@
+// What becomes of a frame that was read: refused, acknowledged, forwarded.
+ghost use mathlib.Core.Path.{_≡_};
+ghost use mathlib.Core.Bool.{true, false, _&&_};
+ghost use Prim.Native.Nat.{_≤_};
+ghost use lib.ListN.{length};
+ghost use Rattle.octets.specs.Room.{over};
+ghost use Rattle.frame.specs.Order.{firstOf};
+ghost use Rattle.frame.specs.Valid.{inRange};
+ghost use Rattle.tp1.specs.Reading.{readTp1};
+ghost use Rattle.routing.specs.Reading.{readRouting};
+ghost use Rattle.coupler.specs.Memory.{isRepetition};
+ghost use Rattle.coupler.specs.Step.{settingOf, settingTests, judgedBy, fromIp, heardTp1, heardIp, isAllowed, acknowledgementOf, forwardedMeaning, formOf, putSize, Sent, refusedOutcome, PassedOn, HandedOn};
+use crate::Acknowledgement;
+use crate::Judged;
+use crate::Outcome;
+use cemi::CemiAnswer;
+use cemi::Message;
+use frame::Meaning;
+use frame::Refusal;
+use frame::Written;
+use tp1::Tp1Answer;
+
+pub(crate) fn refused(refusal: Refusal) -> Outcome
+    ensures { λ r. ⌜ r ≡ refusedOutcome refusal ⌝ }
+{
+    Outcome {
+        number: refusal.number(),
+        acknowledgement: Acknowledgement::Silence,
+        own: false,
+        forwarded: 0,
+    }
+}
+
+// The refusals that stand before the reader's: 15, 18, 14, 13.
+pub(crate) fn judge(line: u8, codes: [[u8; 4]; 2], table: &[u8], side: u8, medium: u8, room: usize) -> Judged
+    ensures { λ r. ⌜ r ≡ judgedBy (firstOf (settingTests (settingOf line codes (now (table .entry)) side medium) room)) ⌝ }
+{
+    let allowed = crate::settings::are_codes(codes);
+    let wrong = (line == 0) | !allowed;
+    if wrong {
+        return Judged::Refused(Refusal::WrongSetting);
+    }
+    if crate::settings::table_fits(codes, table.len()) {
+        let named = (side < 2) & (medium < 2);
+        if named {
+            if room < 272 {
+                return Judged::Refused(Refusal::SmallRoom);
+            }
+            Judged::Fine
+        } else {
+            Judged::Refused(Refusal::OutOfRange)
+        }
+    } else {
+        Judged::Refused(Refusal::NoTable)
+    }
+}
+
+// Address, codes and count allow forwarding.
+fn is_allowed(line: u8, codes: [[u8; 4]; 2], table: &[u8], side: u8, medium: u8, meaning: Meaning) -> bool
+    ensures { λ r. ⌜ r ≡ isAllowed (settingOf line codes (now (table .entry)) side medium) meaning ⌝ }
+{
+    let passes = crate::may_pass(line, codes, table, side, meaning.group, meaning.destination);
+    passes & (meaning.count != 0)
+}
+
+// Worked out from the fields as they stand, apart from acceptance and repetition.
+fn acknowledgement(line: u8, codes: [[u8; 4]; 2], table: &[u8], side: u8, medium: u8, meaning: Meaning) -> Acknowledgement
+    ensures { λ r. ⌜ r ≡ acknowledgementOf (settingOf line codes (now (table .entry)) side medium) meaning ⌝ }
+{
+    let own = crate::passing::is_own(line, meaning.group, meaning.destination);
+    let allowed = is_allowed(line, codes, table, side, medium, meaning);
+    let ip = (side == 0) & (medium == 1);
+    let due = !ip & (own | allowed);
+    if due {
+        Acknowledgement::Acknowledged
+    } else {
+        Acknowledgement::Silence
+    }
+}
+
+fn forwarded_meaning(meaning: Meaning) -> Meaning
+    ensures { λ r. ⌜ r ≡ forwardedMeaning meaning ⌝ }
+{
+    Meaning {
+        extended: meaning.extended,
+        first: true,
+        priority: meaning.priority,
+        source: meaning.source,
+        group: meaning.group,
+        destination: meaning.destination,
+        count: crate::hopped_count(meaning.count),
+    }
+}
+
+fn put_size(written: Written) -> usize
+    ensures { λ r. ⌜ r ≡ putSize written ⌝ }
+{
+    match written {
+        Written::Put(size) => size,
+        Written::Refused(_) => 0,
+    }
+}
+
+// Lays the forwarded frame over the room, in the form of the medium that it goes out by.
+fn forward(ip: bool, meaning: Meaning, payload: &[u8], room: &mut [u8]) -> usize
+    requires { ⌜ (inRange meaning (length (now payload)) ≡ true) × (272 ≤ length (now room)) ⌝ }
+    ensures { λ r. ⌜ Sent (formOf ip meaning (now (payload .entry))) (now (room .entry)) r (now (room .exit)) ⌝ }
+{
+    let meaning = forwarded_meaning(meaning);
+    if ip {
+        let message = Message {
+            code: 0x29,
+            error: false,
+            meaning,
+        };
+        put_size(routing::write(message, payload, room))
+    } else {
+        put_size(tp1::write(meaning, payload, room))
+    }
+}
+
+fn pass_on(
+    line: u8,
+    codes: [[u8; 4]; 2],
+    table: &[u8],
+    side: u8,
+    medium: u8,
+    repetition: bool,
+    meaning: Meaning,
+    payload: &[u8],
+    room: &mut [u8],
+) -> Outcome
+    requires { ⌜ (inRange meaning (length (now payload)) ≡ true) × (272 ≤ length (now room)) ⌝ }
+    ensures { λ r. ⌜ PassedOn (settingOf line codes (now (table .entry)) side medium) repetition meaning (now (payload .entry)) (now (room .entry)) r (now (room .exit)) ⌝ }
+{
+    let acknowledgement = acknowledgement(line, codes, table, side, medium, meaning);
+    let own = crate::passing::is_own(line, meaning.group, meaning.destination);
+    let allowed = is_allowed(line, codes, table, side, medium, meaning);
+    let forwards = allowed & !repetition;
+    if forwards {
+        let ip = (side == 1) & (medium == 1);
+        let forwarded = forward(ip, meaning, payload, room);
+        Outcome {
+            number: 0,
+            acknowledgement,
+            own,
+            forwarded,
+        }
+    } else {
+        Outcome {
+            number: 0,
+            acknowledgement,
+            own,
+            forwarded: 0,
+        }
+    }
+}
+
+fn is_repetition(remembered: &[u8], meaning: Meaning) -> bool
+    ensures { λ r. ⌜ r ≡ isRepetition (now (remembered .entry)) meaning ⌝ }
+{
+    let before = tp1::meaning_in(remembered);
+    let none = remembered.len() == 0;
+    let addresses = (before.source == meaning.source) & (before.destination == meaning.destination);
+    !none & !meaning.first & addresses & (before.group == meaning.group)
+}
+
+pub(crate) fn from_tp1(
+    line: u8,
+    codes: [[u8; 4]; 2],
+    table: &[u8],
+    side: u8,
+    medium: u8,
+    remembered: &[u8],
+    octets: &[u8],
+    room: &mut [u8],
+) -> Outcome
+    requires { ⌜ (fromIp (settingOf line codes (now table) side medium) ≡ false) × (272 ≤ length (now room)) ⌝ }
+    ensures { λ r. ⌜ HandedOn (settingOf line codes (now (table .entry)) side medium) (now (remembered .entry)) (heardTp1 (readTp1 (now (octets .entry))) (now (octets .entry))) (now (room .entry)) r (now (room .exit)) ⌝ }
+{
+    let answer = tp1::read(octets);
+    match answer {
+        Tp1Answer::Refused(refusal) => refused(refusal),
+        Tp1Answer::Frame(meaning) => {
+            let payload = tp1::payload(answer, octets);
+            let repetition = is_repetition(remembered, meaning);
+            pass_on(line, codes, table, side, medium, repetition, meaning, payload, room)
+        }
+    }
+}
+
+pub(crate) fn from_ip(
+    line: u8,
+    codes: [[u8; 4]; 2],
+    table: &[u8],
+    side: u8,
+    medium: u8,
+    remembered: &[u8],
+    octets: &[u8],
+    room: &mut [u8],
+) -> Outcome
+    requires { ⌜ (fromIp (settingOf line codes (now table) side medium) ≡ true) × (272 ≤ length (now room)) ⌝ }
+    ensures { λ r. ⌜ HandedOn (settingOf line codes (now (table .entry)) side medium) (now (remembered .entry)) (heardIp (readRouting (now (octets .entry))) (now (octets .entry))) (now (room .entry)) r (now (room .exit)) ⌝ }
+{
+    let answer = routing::read(octets);
+    match answer {
+        CemiAnswer::Refused(refusal) => refused(refusal),
+        CemiAnswer::Frame(message) => {
+            let payload = routing::payload(answer, octets);
+            let meaning = message.meaning;
+            pass_on(line, codes, table, side, medium, false, meaning, payload, room)
+        }
+    }
+}

@@ -7,6 +7,7 @@ pub mod settings;
 ghost use mathlib.Core.Path.{_≡_};
 ghost use lib.ListN.{length};
 ghost use Rattle.coupler.specs.Passing.{mayPass, hopped};
+ghost use Rattle.coupler.specs.Step.{settingOf, heard, HandedOn};
 use frame::Refusal;
 
 // "CCh", or "no acknowledgement".
@@ -21,6 +22,12 @@ pub struct Outcome {
     pub acknowledgement: Acknowledgement,
     pub own: bool,
     pub forwarded: usize,
+}
+
+// What settings, side, medium and room are found to be.
+pub enum Judged {
+    Fine,
+    Refused(Refusal),
 }
 
 // The last accepted frame of a TP1 side; size 0 is none.
@@ -65,4 +72,31 @@ pub fn hopped_count(count: u8) -> u8
         return 7;
     }
     if count == 0 { 0 } else { count - 1 }
+}
+
+// One frame handed on or not: all that a step decides, with the frame that its side remembers (no octets: none).
+pub fn hand_on(
+    line: u8,
+    codes: [[u8; 4]; 2],
+    table: &[u8],
+    side: u8,
+    medium: u8,
+    remembered: &[u8],
+    octets: &[u8],
+    room: &mut [u8],
+) -> Outcome
+    ensures { λ r. ⌜ HandedOn (settingOf line codes (now (table .entry)) side medium) (now (remembered .entry)) (heard (settingOf line codes (now (table .entry)) side medium) (now (octets .entry)) (length (now (room .entry)))) (now (room .entry)) r (now (room .exit)) ⌝ }
+{
+    let judged = forwarding::judge(line, codes, table, side, medium, room.len());
+    match judged {
+        Judged::Refused(refusal) => forwarding::refused(refusal),
+        Judged::Fine => {
+            let ip = (side == 0) & (medium == 1);
+            if ip {
+                forwarding::from_ip(line, codes, table, side, medium, remembered, octets, room)
+            } else {
+                forwarding::from_tp1(line, codes, table, side, medium, remembered, octets, room)
+            }
+        }
+    }
 }

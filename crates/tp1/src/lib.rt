@@ -8,7 +8,7 @@ ghost use Rattle.octets.specs.Part.{PartAt};
 ghost use Rattle.frame.specs.Valid.{inRange};
 ghost use Rattle.frame.specs.Writing.{Wrote};
 ghost use Rattle.tp1.specs.Layout.{tp1Octets};
-ghost use Rattle.tp1.specs.Reading.{readTp1, payloadAt, payloadIn};
+ghost use Rattle.tp1.specs.Reading.{meaningIn, readTp1, payloadAt, payloadIn};
 use frame::Meaning;
 use frame::Refusal;
 use frame::Written;
@@ -47,6 +47,13 @@ pub fn payload(answer: Tp1Answer, octets: &[u8]) -> &[u8]
     } else {
         &octets[..0]
     }
+}
+
+// What octets mean as a frame, as they stand: asked of a frame that was accepted before.
+pub fn meaning_in(octets: &[u8]) -> Meaning
+    ensures { λ r. ⌜ r ≡ meaningIn (now (octets .entry)) ⌝ }
+{
+    reading::meaning_in(octets)
 }
 
 // Writes the frame at the front of the room, or refuses by 14, then 13.

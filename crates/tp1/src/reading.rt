@@ -59,7 +59,7 @@ fn is_checked(octets: &[u8]) -> bool
     octets[last] == octets::check_octet(&octets[..last])
 }
 
-fn meaning_in(octets: &[u8]) -> Meaning
+pub(crate) fn meaning_in(octets: &[u8]) -> Meaning
     ensures { λ r. ⌜ r ≡ meaningIn (now (octets .entry)) ⌝ }
 {
     if is_extended(octets) {
