@@ -1,2 +1,3 @@
 pub mod HeaderLaws
 pub mod LayoutLaws
+pub mod Refusals
