@@ -32,7 +32,14 @@ pub(crate) fn refused(refusal: Refusal) -> Outcome
 }
 
 // The refusals that stand before the reader's: 15, 18, 14, 13.
-pub(crate) fn judge(line: u8, codes: [[u8; 4]; 2], table: &[u8], side: u8, medium: u8, room: usize) -> Judged
+pub(crate) fn judge(
+    line: u8,
+    codes: [[u8; 4]; 2],
+    table: &[u8],
+    side: u8,
+    medium: u8,
+    room: usize,
+) -> Judged
     ensures { λ r. ⌜ r ≡ judgedBy (firstOf (settingTests (settingOf line codes (now (table .entry)) side medium) room)) ⌝ }
 {
     let allowed = crate::settings::are_codes(codes);
@@ -56,7 +63,14 @@ pub(crate) fn judge(line: u8, codes: [[u8; 4]; 2], table: &[u8], side: u8, mediu
 }
 
 // Address, codes and count allow forwarding.
-fn is_allowed(line: u8, codes: [[u8; 4]; 2], table: &[u8], side: u8, medium: u8, meaning: Meaning) -> bool
+fn is_allowed(
+    line: u8,
+    codes: [[u8; 4]; 2],
+    table: &[u8],
+    side: u8,
+    medium: u8,
+    meaning: Meaning,
+) -> bool
     ensures { λ r. ⌜ r ≡ isAllowed (settingOf line codes (now (table .entry)) side medium) meaning ⌝ }
 {
     let passes = crate::may_pass(line, codes, table, side, meaning.group, meaning.destination);
@@ -64,7 +78,14 @@ fn is_allowed(line: u8, codes: [[u8; 4]; 2], table: &[u8], side: u8, medium: u8,
 }
 
 // Worked out from the fields as they stand, apart from acceptance and repetition.
-fn acknowledgement(line: u8, codes: [[u8; 4]; 2], table: &[u8], side: u8, medium: u8, meaning: Meaning) -> Acknowledgement
+fn acknowledgement(
+    line: u8,
+    codes: [[u8; 4]; 2],
+    table: &[u8],
+    side: u8,
+    medium: u8,
+    meaning: Meaning,
+) -> Acknowledgement
     ensures { λ r. ⌜ r ≡ acknowledgementOf (settingOf line codes (now (table .entry)) side medium) meaning ⌝ }
 {
     let own = crate::passing::is_own(line, meaning.group, meaning.destination);
@@ -161,8 +182,11 @@ fn is_repetition(remembered: &[u8], meaning: Meaning) -> bool
 {
     let before = tp1::meaning_in(remembered);
     let none = remembered.len() == 0;
-    let addresses = (before.source == meaning.source) & (before.destination == meaning.destination);
-    !none & !meaning.first & addresses & (before.group == meaning.group)
+    !none
+        & !meaning.first
+        & (before.source == meaning.source)
+        & (before.destination == meaning.destination)
+        & (before.group == meaning.group)
 }
 
 pub(crate) fn from_tp1(
@@ -184,7 +208,17 @@ pub(crate) fn from_tp1(
         Tp1Answer::Frame(meaning) => {
             let payload = tp1::payload(answer, octets);
             let repetition = is_repetition(remembered, meaning);
-            pass_on(line, codes, table, side, medium, repetition, meaning, payload, room)
+            pass_on(
+                line,
+                codes,
+                table,
+                side,
+                medium,
+                repetition,
+                meaning,
+                payload,
+                room,
+            )
         }
     }
 }
@@ -208,7 +242,17 @@ pub(crate) fn from_ip(
         CemiAnswer::Frame(message) => {
             let payload = routing::payload(answer, octets);
             let meaning = message.meaning;
-            pass_on(line, codes, table, side, medium, false, meaning, payload, room)
+            pass_on(
+                line,
+                codes,
+                table,
+                side,
+                medium,
+                false,
+                meaning,
+                payload,
+                room,
+            )
         }
     }
 }

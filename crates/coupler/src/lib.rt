@@ -1,7 +1,7 @@
 // One coupler step: who may pass, what is forwarded, what is remembered.
 mod forwarding;
-mod remembering;
 mod passing;
+mod remembering;
 pub mod settings;
 
 ghost use mathlib.Core.Path.{_≡_};

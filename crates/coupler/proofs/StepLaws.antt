@@ -1,0 +1,111 @@
+-- What the parts of a step ensure, put together: a frame that was read has a form on either medium, and a room of 272 holds it.
+use Prim.Native.Nat.{ℕ, _-_, _≤_, _<_}
+use mathlib.Core.Bool.{Bool, true, false, not, cond, _&&_}
+use mathlib.Core.List.{List}
+use mathlib.Core.Path.{_≡_, refl, sym, ap, _∙_}
+use native.Mathlib.Omega.{arith}
+use lib.Dec.{eqb}
+use lib.ListN.{length, drop}
+use borrow.Author.Tests.{ltb-false}
+use Rattle.cemi.specs.Writing.{messageInRange}
+use Rattle.cemi.specs.declared.Codes.the-variants.{IndicationOnly}
+use Rattle.cemi.specs.declared.Message.{Message}
+use Rattle.coupler.specs.Memory.{isRepetition}
+use Rattle.coupler.specs.Passing.{hopped}
+use Rattle.coupler.specs.Step.{Setting, settingTests, judgedBy, fromIp, repeats, forwardedMeaning, indication, formOf, putSize, Sent, sentOf, acceptedOutcome, refusedOutcome, PassedOn, HandedOn, frame, nothing}
+use Rattle.coupler.specs.declared.Outcome.{Outcome}
+use Rattle.frame.proofs.Order.{passed-iff}
+use Rattle.frame.proofs.Valid.{ranges-of, ranged, most-payload}
+use Rattle.frame.proofs.Writing.{put-iff, wrote-over}
+use Rattle.frame.specs.Order.{Verdict, firstOf, pass, refuse}
+use Rattle.frame.specs.Valid.{inRange}
+use Rattle.frame.specs.Writing.{Wrote}
+use Rattle.frame.specs.declared.Meaning.{Meaning}
+use Rattle.frame.specs.declared.Refusal.{Refusal}
+use Rattle.frame.specs.declared.Written.the-variants.{Put}
+use Rattle.frame.specs.declared.Written.{Written}
+use Rattle.octets.proofs.Octets.{octets-drop}
+use Rattle.octets.specs.Octets.{Octets}
+use Rattle.octets.specs.Room.{over}
+use Rattle.routing.proofs.LayoutLaws.{length-routing}
+use Rattle.routing.proofs.RoundTrip.{read-datagram}
+use Rattle.routing.specs.Layout.{routingOctets}
+use Rattle.routing.specs.Reading.{readRouting, routedPayload}
+use Rattle.tp1.proofs.LayoutLaws.{octets-most}
+use Rattle.tp1.specs.Layout.{tp1Octets}
+use Rattle.tp1.specs.Reading.{payloadIn, readTp1}
+use Rattle.tp1.specs.declared.Tp1Answer.the-variants.{Frame}
+use Rattle.tp1.proofs.RoundTrip.{read-laid as tp1-read-laid}
+use Rattle.cemi.specs.declared.CemiAnswer.the-variants.{Frame as Message-is}
+use Rattle.cemi.proofs.RoundTrip.{read-laid as cemi-read-laid}
+use Rattle.coupler.specs.declared.Judged.the-variants.{Fine, Refused as NotFine}
+
+hopped-below : (c : ℕ) → c < 8 → hopped c < 8
+hopped-below c h = go (eqb c 7) refl
+  where
+    go : (b : Bool) → eqb c 7 ≡ b → cond b 7 (c - 1) < 8
+    go true e = omega arith
+    go false e = omega arith
+
+-- a forwarded frame keeps what the ranges ask
+forwarded-ranged : (m : Meaning) (k : ℕ) → inRange m k ≡ true → inRange (forwardedMeaning m) k ≡ true
+forwarded-ranged m k e =
+    let r = ranges-of m k e in
+    ranged (forwardedMeaning m) k (record { priority = r .priority; count = hopped-below (m .count) (r .count); some = r .some; most = r .most })
+
+indication-ranged : (m : Meaning) (k : ℕ) → inRange m k ≡ true → messageInRange IndicationOnly (indication (forwardedMeaning m)) k ≡ true
+unfolding messageInRange
+indication-ranged m k e = forwarded-ranged m k e
+
+-- a writer that refused nothing has sent the frame
+sent-all : {ok : Bool} {octets room : List ℕ} {w : Written} {room′ : List ℕ} {n : ℕ} → ok ≡ true → length octets ≤ length room → Wrote ok octets room w room′ → n ≡ putSize w → Sent octets room n room′
+sent-all {ok} {octets} {room} {w} e h x s =
+    let a : w ≡ Put (length octets) = x .answered ∙ put-iff ok octets room (length octets) .1 (e, (h, refl)) in
+    record { count = s ∙ ap putSize a; left = wrote-over e h x }
+
+module _ (m : Meaning) (p room : List ℕ) (e : inRange m (length p) ≡ true) (h : 272 ≤ length room) {w : Written} {room′ : List ℕ} {n : ℕ} where
+  pub sent-tp1 : Wrote (inRange (forwardedMeaning m) (length p)) (tp1Octets (forwardedMeaning m) p) room w room′ → n ≡ putSize w → Sent (formOf false m p) room n room′
+  unfolding formOf
+  sent-tp1 x s = sent-all (forwarded-ranged m (length p) e) (omega (arith, octets-most (forwardedMeaning m) p (forwarded-ranged m (length p) e))) x s
+
+  pub sent-ip : Wrote (messageInRange IndicationOnly (indication (forwardedMeaning m)) (length p)) (routingOctets (indication (forwardedMeaning m)) p) room w room′ → n ≡ putSize w → Sent (formOf true m p) room n room′
+  unfolding formOf
+  sent-ip x s = sent-all (indication-ranged m (length p) e) (omega (arith, length-routing (indication (forwardedMeaning m)) p, most-payload m (length p) e)) x s
+
+-- a frame that was read has a meaning and a payload in range
+pub tp1-ranged : (s : List ℕ) (m : Meaning) → Octets s → readTp1 s ≡ Frame m → inRange m (length (payloadIn (Frame m) s)) ≡ true
+tp1-ranged s m o e = tp1-read-laid s m o e .valid .ranges
+
+pub ip-ranged : (s : List ℕ) (x : Message) → Octets s → readRouting s ≡ Message-is x → inRange (x .meaning) (length (routedPayload (Message-is x) s)) ≡ true
+ip-ranged s x o e = cemi-read-laid IndicationOnly (drop 6 s) x (octets-drop 6 s o) (read-datagram s x o e .1) .valid .valid .ranges
+
+-- what became of an accepted frame is what a step says of it
+handed : {k : Setting} {remembered room : List ℕ} {o : Outcome} {room′ : List ℕ} {rep : Bool} {m : Meaning} {p : List ℕ} → rep ≡ repeats k remembered m
+    → PassedOn k rep m p room o room′ → HandedOn k remembered (frame m p) room o room′
+handed {k} {room = room} {m = m} {p = p} e x =
+    record { outcome = x .outcome ∙ ap (λ (b : Bool). acceptedOutcome k b m p) e; left = x .left ∙ ap (λ (b : Bool). over (sentOf k b m p) room) e }
+
+pub handed-tp1 : {k : Setting} {remembered room : List ℕ} {o : Outcome} {room′ : List ℕ} {rep : Bool} {m : Meaning} {p : List ℕ} → fromIp k ≡ false → rep ≡ isRepetition remembered m
+    → PassedOn k rep m p room o room′ → HandedOn k remembered (frame m p) room o room′
+handed-tp1 {remembered = remembered} {m = m} f e x = handed (e ∙ ap (λ (b : Bool). not b && isRepetition remembered m) (sym f)) x
+
+pub handed-ip : {k : Setting} {remembered room : List ℕ} {o : Outcome} {room′ : List ℕ} {m : Meaning} {p : List ℕ} → fromIp k ≡ true
+    → PassedOn k false m p room o room′ → HandedOn k remembered (frame m p) room o room′
+handed-ip {remembered = remembered} {m = m} f x = handed (ap (λ (b : Bool). not b && isRepetition remembered m) (sym f)) x
+
+-- a refusal leaves the room as it was
+pub handed-nothing : (k : Setting) (remembered room : List ℕ) (r : Refusal) {o : Outcome} → o ≡ refusedOutcome r → HandedOn k remembered (nothing r) room o room
+handed-nothing k remembered room r e = record { outcome = e; left = refl }
+
+-- the settings' refusals stand before the reader's
+pub judged-fine : (v : Verdict) → Fine ≡ judgedBy v → v ≡ pass
+judged-fine pass e = refl
+judged-fine (refuse r) e = let z : _≡_ {A = ℕ} 0 1 = cc in absurd (omega arith)
+
+pub judged-refused : (v : Verdict) (r : Refusal) → NotFine r ≡ judgedBy v → v ≡ refuse r
+judged-refused pass r e = let z : _≡_ {A = ℕ} 0 1 = cc in absurd (omega arith)
+judged-refused (refuse q) r e = let h : q ≡ r = cc in ap refuse h
+
+-- settings that are fine come with a room of 272
+pub fine-room : (k : Setting) (n : ℕ) → Fine ≡ judgedBy (firstOf (settingTests k n)) → 272 ≤ n
+fine-room k n e = ltb-false n 272 (passed-iff (settingTests k n) .0 (judged-fine (firstOf (settingTests k n)) e) .1 .1 .1 .0)

@@ -1,0 +1,16 @@
+use borrow.Author.Needs.{needs}
+use Rattle.coupler.specs.Memory.{isRepetition}
+use Rattle.coupler.proofs.forwarding.is_repetition.Statement.{statement}
+use Rattle.coupler.proofs.forwarding.is_repetition.Tie as tie
+
+returns : tie.Need-returns
+unfolding isRepetition
+returns c =
+    rw (c .before .before .before .before .before .before .before .meaning-in .ensures)
+
+pub is-repetition-spec : {M : Type 1} → statement M
+is-repetition-spec =
+    tie.close
+    (tie.spec
+    (λ c κs. search needs)
+    returns)
