@@ -2,25 +2,29 @@
 use Prim.Native.Nat.{ℕ, _-_, _≤_, _<_}
 use mathlib.Core.Bool.{Bool, true, false, not, cond, _&&_}
 use mathlib.Core.List.{List}
-use mathlib.Core.Path.{_≡_, refl, sym, ap, _∙_}
+use mathlib.Core.Path.{_≡_, refl, sym, ap, _∙_, subst}
 use native.Mathlib.Omega.{arith}
 use lib.Dec.{eqb}
-use lib.ListN.{length, drop}
+use lib.ListN.{length, take, drop}
 use borrow.Author.Tests.{ltb-false}
 use Rattle.cemi.specs.Writing.{messageInRange}
 use Rattle.cemi.specs.declared.Codes.the-variants.{IndicationOnly}
 use Rattle.cemi.specs.declared.Message.{Message}
-use Rattle.coupler.specs.Memory.{isRepetition}
+use Rattle.coupler.specs.Memory.{kept, recalled, sideOf, rememberedOn, rememberedIf, isRepetition}
 use Rattle.coupler.specs.Passing.{hopped}
-use Rattle.coupler.specs.Step.{Setting, settingTests, judgedBy, fromIp, repeats, forwardedMeaning, indication, formOf, putSize, Sent, sentOf, acceptedOutcome, refusedOutcome, PassedOn, HandedOn, frame, nothing}
+use Rattle.coupler.specs.Step.{Setting, settingTests, judgedBy, fromIp, Heard, heard, repeats, forwardedMeaning, indication, formOf, putSize, Sent, sentOf, acceptedOutcome, refusedOutcome, PassedOn, outcomeOf, HandedOn, memoryAfter, Did, frame, nothing}
+use Rattle.coupler.specs.declared.Memory.{Memory}
 use Rattle.coupler.specs.declared.Outcome.{Outcome}
+use Rattle.coupler.specs.declared.Remembered.{Remembered}
 use Rattle.frame.proofs.Order.{passed-iff}
 use Rattle.frame.proofs.Valid.{ranges-of, ranged, most-payload}
 use Rattle.frame.proofs.Writing.{put-iff, wrote-over}
 use Rattle.frame.specs.Order.{Verdict, firstOf, pass, refuse}
+use Rattle.frame.specs.Refusals.{number}
 use Rattle.frame.specs.Valid.{inRange}
 use Rattle.frame.specs.Writing.{Wrote}
 use Rattle.frame.specs.declared.Meaning.{Meaning}
+use Rattle.frame.specs.declared.Refusal.the-variants.{TooFew, NotData, OtherFormat, Escape, LeftOver, WrongCheck, OtherCode, InformationEscape, LongStandard, OtherHeader, OtherService, OtherLength, SmallRoom, OutOfRange, WrongSetting, WrongRecord, LineTwice, NoTable}
 use Rattle.frame.specs.declared.Refusal.{Refusal}
 use Rattle.frame.specs.declared.Written.the-variants.{Put}
 use Rattle.frame.specs.declared.Written.{Written}
@@ -109,3 +113,48 @@ judged-refused (refuse q) r e = let h : q ≡ r = cc in ap refuse h
 -- settings that are fine come with a room of 272
 pub fine-room : (k : Setting) (n : ℕ) → Fine ≡ judgedBy (firstOf (settingTests k n)) → 272 ≤ n
 fine-room k n e = ltb-false n 272 (passed-iff (settingTests k n) .0 (judged-fine (firstOf (settingTests k n)) e) .1 .1 .1 .0)
+
+-- a refusal's number is not 0
+refused-number : (r : Refusal) → eqb (number r) 0 ≡ false
+refused-number TooFew = refl
+refused-number NotData = refl
+refused-number OtherFormat = refl
+refused-number Escape = refl
+refused-number LeftOver = refl
+refused-number WrongCheck = refl
+refused-number OtherCode = refl
+refused-number InformationEscape = refl
+refused-number LongStandard = refl
+refused-number OtherHeader = refl
+refused-number OtherService = refl
+refused-number OtherLength = refl
+refused-number SmallRoom = refl
+refused-number OutOfRange = refl
+refused-number WrongSetting = refl
+refused-number WrongRecord = refl
+refused-number LineTwice = refl
+refused-number NoTable = refl
+
+-- the memory that the code keeps by the outcome's number is the one that the step says
+pub memory-by-number : (k : Setting) (remembered : List ℕ) (m : Memory) (s : List ℕ) (h : Heard)
+    → rememberedIf (eqb (outcomeOf k remembered h .number) 0 && not (fromIp k)) m (k .side) s ≡ memoryAfter k m s h
+unfolding rememberedIf
+memory-by-number k remembered m s (frame x p) = go (fromIp k)
+  where
+    go : (b : Bool) → cond (not b) (rememberedOn m (k .side) s) m ≡ cond b m (rememberedOn m (k .side) s)
+    go true = refl
+    go false = refl
+memory-by-number k remembered m s (nothing r) = rw (refused-number r)
+
+-- handing on with the frame that the side remembers, and remembering by the outcome's number, are a step
+pub did : (k : Setting) (m : Memory) (s : List ℕ) {room : List ℕ} {r : Remembered} {n : ℕ} {o : Outcome} {m′ : Memory} {room′ : List ℕ} → r ≡ sideOf m (k .side) → n ≡ kept r
+    → HandedOn k (take n (r .octets)) (heard k s (length room)) room o room′
+    → m′ ≡ rememberedIf (eqb (o .number) 0 && not (fromIp k)) m (k .side) s
+    → Did k m s room o m′ room′
+unfolding recalled
+did k m s {room} {r} {n} {o} {m′} {room′} e j x y =
+    let q : take n (r .octets) ≡ recalled (sideOf m (k .side)) = ap (λ (i : ℕ). take i (r .octets)) j ∙ ap recalled e in
+    record {
+      handed = subst (λ (l : List ℕ). HandedOn k l (heard k s (length room)) room o room′) q x;
+      memory = y ∙ ap (λ (p : Outcome). rememberedIf (eqb (p .number) 0 && not (fromIp k)) m (k .side) s) (x .outcome) ∙ memory-by-number k (take n (r .octets)) m s (heard k s (length room));
+    }

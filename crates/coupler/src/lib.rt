@@ -7,7 +7,8 @@ pub mod settings;
 ghost use mathlib.Core.Path.{_≡_};
 ghost use lib.ListN.{length};
 ghost use Rattle.coupler.specs.Passing.{mayPass, hopped};
-ghost use Rattle.coupler.specs.Step.{settingOf, heard, HandedOn};
+ghost use Rattle.coupler.specs.Memory.{noMemory};
+ghost use Rattle.coupler.specs.Step.{settingOf, heard, HandedOn, Did};
 use frame::Refusal;
 
 // "CCh", or "no acknowledgement".
@@ -99,4 +100,36 @@ pub fn hand_on(
             }
         }
     }
+}
+
+// "at the start none"
+pub fn nothing_remembered() -> Memory
+    ensures { λ r. ⌜ r ≡ noMemory ⌝ }
+{
+    let main = remembering::none();
+    let sub = remembering::none();
+    Memory { main, sub }
+}
+
+// One step, its memory by value.
+pub fn step(
+    memory: Memory,
+    line: u8,
+    codes: [[u8; 4]; 2],
+    table: &[u8],
+    side: u8,
+    medium: u8,
+    octets: &[u8],
+    room: &mut [u8],
+) -> Stepped
+    ensures { λ r. ⌜ Did (settingOf line codes (now (table .entry)) side medium) memory (now (octets .entry)) (now (room .entry)) (r .outcome) (r .memory) (now (room .exit)) ⌝ }
+{
+    let remembered = remembering::side_of(memory, side);
+    let kept = remembering::kept_of(remembered);
+    let frame = remembered.octets;
+    let outcome = hand_on(line, codes, table, side, medium, &frame[..kept], octets, room);
+    let ip = (side == 0) & (medium == 1);
+    let accepted = (outcome.number == 0) & !ip;
+    let memory = remembering::remembered_if(accepted, memory, side, octets);
+    Stepped { outcome, memory }
 }

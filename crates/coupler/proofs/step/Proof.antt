@@ -1,0 +1,37 @@
+-- What is handed on is `hand_on`'s; the memory follows its number, which is 0 exactly for an accepted frame.
+use mathlib.Core.Path.{_≡_, sym}
+use native.Mathlib.Omega.{arith}
+use lib.ListN.{length}
+use lib.Seq.{length-take-le}
+use borrow.Author.Needs.{needs}
+use Rattle.coupler.proofs.StepLaws.{did}
+use Rattle.coupler.specs.Step.{settingOf}
+use Rattle.coupler.proofs.step.Statement.{statement}
+use Rattle.coupler.proofs.step.Tie as tie
+
+array-share-prefix-frame : tie.Need-array-share-prefix-frame
+array-share-prefix-frame c =
+    let size : length (c .before .before .side-of .result .octets) ≡ 263 = search needs in
+    omega (arith, c .before .kept-of .ensures .1)
+
+slice-aggregate-hand-on : tie.Need-slice-aggregate-hand-on
+slice-aggregate-hand-on c =
+    let size : length (c .before .before .before .side-of .result .octets) ≡ 263 = search needs in
+    sym (length-take-le _ _ (omega (arith, c .before .before .kept-of .ensures .1)))
+
+returns : tie.Need-returns
+returns c =
+    did (settingOf (c .before .before .before .before .before .before .before .before .before .before .before .before .before .args .line) (c .before .before .before .before .before .before .before .before .before .before .before .before .before .args .codes) (c .before .before .before .before .before .before .before .before .before .before .before .before .before .args .table .now) (c .before .before .before .before .before .before .before .before .before .before .before .before .before .args .side) (c .before .before .before .before .before .before .before .before .before .before .before .before .before .args .medium)) (c .before .before .before .before .before .before .before .before .before .before .before .before .before .args .memory) (c .before .before .before .before .before .before .before .before .before .before .before .before .before .args .octets .now) (c .before .before .before .before .before .before .before .before .before .side-of .ensures) (c .before .before .before .before .before .before .before .before .kept-of .ensures .0) (c .before .before .before .before .hand-on .ensures) (c .remembered-if .ensures)
+
+pub step-spec : {M : Type 1} → statement M
+step-spec =
+    tie.close
+    (tie.spec
+    (λ c κs. search needs)
+    (λ c κs. search needs)
+    array-share-prefix-frame
+    slice-aggregate-hand-on
+    (λ c κs. search needs)
+    (λ c κs. search needs)
+    (λ c. search needs)
+    returns)
