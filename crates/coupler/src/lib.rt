@@ -127,9 +127,36 @@ pub fn step(
     let remembered = remembering::side_of(memory, side);
     let kept = remembering::kept_of(remembered);
     let frame = remembered.octets;
-    let outcome = hand_on(line, codes, table, side, medium, &frame[..kept], octets, room);
+    let outcome = hand_on(
+        line,
+        codes,
+        table,
+        side,
+        medium,
+        &frame[..kept],
+        octets,
+        room,
+    );
     let ip = (side == 0) & (medium == 1);
     let accepted = (outcome.number == 0) & !ip;
     let memory = remembering::remembered_if(accepted, memory, side, octets);
     Stepped { outcome, memory }
+}
+
+// The same step, lent the remembered frames and changing them in place.
+pub fn step_in_place(
+    memory: &mut Memory,
+    line: u8,
+    codes: [[u8; 4]; 2],
+    table: &[u8],
+    side: u8,
+    medium: u8,
+    octets: &[u8],
+    room: &mut [u8],
+) -> Outcome
+    ensures { λ r. ⌜ Did (settingOf line codes (now (table .entry)) side medium) (now (memory .entry)) (now (octets .entry)) (now (room .entry)) r (now (memory .exit)) (now (room .exit)) ⌝ }
+{
+    let stepped = step(*memory, line, codes, table, side, medium, octets, room);
+    *memory = stepped.memory;
+    stepped.outcome
 }
