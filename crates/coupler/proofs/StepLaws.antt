@@ -12,7 +12,7 @@ use Rattle.cemi.specs.declared.Codes.the-variants.{IndicationOnly}
 use Rattle.cemi.specs.declared.Message.{Message}
 use Rattle.coupler.specs.Memory.{kept, recalled, sideOf, rememberedOn, rememberedIf, isRepetition}
 use Rattle.coupler.specs.Passing.{hopped}
-use Rattle.coupler.specs.Step.{Setting, settingTests, judgedBy, fromIp, Heard, heard, repeats, forwardedMeaning, indication, formOf, putSize, Sent, sentOf, acceptedOutcome, refusedOutcome, PassedOn, outcomeOf, HandedOn, memoryAfter, Did, frame, nothing}
+use Rattle.coupler.specs.Step.{Setting, settingTests, judgedBy, fromIp, Heard, heardTp1, after, heard, repeats, forwardedMeaning, indication, formOf, putSize, Sent, sentOf, acceptedOutcome, refusedOutcome, PassedOn, outcomeOf, HandedOn, memoryAfter, Did, frame, nothing}
 use Rattle.coupler.specs.declared.Memory.{Memory}
 use Rattle.coupler.specs.declared.Outcome.{Outcome}
 use Rattle.coupler.specs.declared.Remembered.{Remembered}
@@ -38,7 +38,8 @@ use Rattle.routing.specs.Reading.{readRouting, routedPayload}
 use Rattle.tp1.proofs.LayoutLaws.{octets-most}
 use Rattle.tp1.specs.Layout.{tp1Octets}
 use Rattle.tp1.specs.Reading.{payloadIn, readTp1}
-use Rattle.tp1.specs.declared.Tp1Answer.the-variants.{Frame}
+use Rattle.tp1.specs.declared.Tp1Answer.{Tp1Answer}
+use Rattle.tp1.specs.declared.Tp1Answer.the-variants.{Frame, Refused as Unread}
 use Rattle.tp1.proofs.RoundTrip.{read-laid as tp1-read-laid}
 use Rattle.cemi.specs.declared.CemiAnswer.the-variants.{Frame as Message-is}
 use Rattle.cemi.proofs.RoundTrip.{read-laid as cemi-read-laid}
@@ -115,7 +116,7 @@ pub fine-room : (k : Setting) (n : ℕ) → Fine ≡ judgedBy (firstOf (settingT
 fine-room k n e = ltb-false n 272 (passed-iff (settingTests k n) .0 (judged-fine (firstOf (settingTests k n)) e) .1 .1 .1 .0)
 
 -- a refusal's number is not 0
-refused-number : (r : Refusal) → eqb (number r) 0 ≡ false
+pub refused-number : (r : Refusal) → eqb (number r) 0 ≡ false
 refused-number TooFew = refl
 refused-number NotData = refl
 refused-number OtherFormat = refl
@@ -158,3 +159,18 @@ did k m s {room} {r} {n} {o} {m′} {room′} e j x y =
       handed = subst (λ (l : List ℕ). HandedOn k l (heard k s (length room)) room o room′) q x;
       memory = y ∙ ap (λ (p : Outcome). rememberedIf (eqb (p .number) 0 && not (fromIp k)) m (k .side) s) (x .outcome) ∙ memory-by-number k (take n (r .octets)) m s (heard k s (length room));
     }
+
+-- a TP1 frame that was heard has at most 263 octets: it fits the memory
+pub heard-size : (k : Setting) (s : List ℕ) (n : ℕ) (m : Meaning) (p : List ℕ) → Octets s → heard k s n ≡ frame m p → fromIp k ≡ false → length s ≤ 263
+unfolding heard
+heard-size k s n m p o e f = settled (firstOf (settingTests k n)) (rw f at e)
+  where
+    answered : (a : Tp1Answer) → readTp1 s ≡ a → heardTp1 a s ≡ frame m p → length s ≤ 263
+    answered (Frame x) q z =
+        let w = tp1-read-laid s x o q in
+        omega (arith, ap length (w .layout), octets-most x (payloadIn (Frame x) s) (w .valid .ranges))
+    answered (Unread r) q z = let y : _≡_ {A = ℕ} 0 1 = cc in absurd (omega arith)
+
+    settled : (v : Verdict) → after v (heardTp1 (readTp1 s) s) ≡ frame m p → length s ≤ 263
+    settled pass z = answered (readTp1 s) refl z
+    settled (refuse r) z = let y : _≡_ {A = ℕ} 0 1 = cc in absurd (omega arith)

@@ -1,4 +1,5 @@
 // The surface for C and Rust: numbers and byte slices only. include/klumdray.h documents each call.
+mod block;
 mod numbers;
 
 ghost use mathlib.Core.Path.{_≡_};
@@ -15,6 +16,8 @@ ghost use Rattle.cemi.specs.Reading.{readCemi, payloadIn as cemiPayload};
 ghost use Rattle.cemi.specs.Writing.{messageInRange};
 ghost use Rattle.routing.specs.Layout.{routingOctets};
 ghost use Rattle.routing.specs.Reading.{readRouting, routedPayload};
+ghost use Rattle.coupler.specs.Step.{settingOf};
+ghost use Rattle.klumdray.specs.Block.{codesIn, lentRight, SteppedThrough};
 ghost use Rattle.klumdray.specs.Numbers.{tp1Number, cemiNumber, areFlags, meaningFrom, messageFrom, WroteNumber};
 use cemi::Codes;
 
@@ -148,6 +151,44 @@ pub extern "C" fn klumdray_routing_write(
         let message = numbers::message_from(code, error, meaning);
         let written = routing::write(message, payload, room);
         numbers::of_written(written)
+    } else {
+        14
+    }
+}
+
+#[no_mangle]
+pub extern "C" fn klumdray_step(
+    line: u8,
+    codes: &[u8],
+    table: &[u8],
+    side: u8,
+    medium: u8,
+    memory: &mut [u8],
+    octets: &[u8],
+    room: &mut [u8],
+) -> u64
+    ensures { λ r. ⌜ SteppedThrough (lentRight (now (codes .entry)) (now (memory .entry))) (settingOf line (codesIn (now (codes .entry))) (now (table .entry)) side medium) (now (memory .entry)) (now (octets .entry)) (now (room .entry)) r (now (memory .exit)) (now (room .exit)) ⌝ }
+{
+    let right = (codes.len() == 8) & (memory.len() == 530);
+    if right {
+        let rows = block::codes_in(codes);
+        let start = block::start_of(side);
+        let from = start + 2;
+        let end = from + block::kept_in(memory, start);
+        let outcome = coupler::hand_on(
+            line,
+            rows,
+            table,
+            side,
+            medium,
+            &memory[from..end],
+            octets,
+            room,
+        );
+        let ip = (side == 0) & (medium == 1);
+        let accepted = (outcome.number == 0) & !ip;
+        block::remember_if(accepted, memory, start, octets);
+        block::of_outcome(outcome)
     } else {
         14
     }

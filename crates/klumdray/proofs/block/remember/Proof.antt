@@ -1,0 +1,23 @@
+use borrow.Author.Needs.{needs}
+use Rattle.klumdray.specs.Block.{rememberedAt}
+use Rattle.klumdray.proofs.block.remember.Statement.{statement}
+use Rattle.klumdray.proofs.block.remember.Tie as tie
+
+returns : tie.Need-returns
+unfolding rememberedAt
+returns c =
+    rw (← c .before .before .before .before .before .before .before .before .before .before .high-octet .ensures, ← c .before .before .before .before .before .before .before .before .before .low-octet .ensures, ← c .before .before .before .before .before .before .lay .ensures) (c .before .before .lay2 .ensures)
+
+pub remember-spec : {M : Type 1} → statement M
+remember-spec =
+    tie.close
+    (tie.spec
+    (λ c. search needs)
+    (λ c κs. search needs)
+    (λ c κs. search needs)
+    (λ c. search needs)
+    (λ c κs. search needs)
+    (λ c. search needs)
+    (λ c κs. search needs)
+    (λ c. search needs)
+    returns)

@@ -1,0 +1,71 @@
+-- The lent block in which a caller of the surface keeps a coupler's memory: 530 octets, for the main side two octets of size and 263
+-- octets, then the same for the sub side. include/klumdray.h says the same in its words.
+use Prim.Native.Nat.{ℕ, _+_, _*_, _%_, _^_}
+use mathlib.Core.Path.{_≡_}
+use mathlib.Core.List.{List, [], _∷_, _++_}
+use mathlib.Core.Bool.{Bool, cond, _&&_}
+use lib.ListN.{length, take, drop}
+use lib.Dec.{leb, eqb}
+use Rattle.octets.specs.Octets.{octetAt, weigh}
+use Rattle.octets.specs.Word.{high, low, wordAt}
+use Rattle.octets.specs.Room.{laid, over}
+use Rattle.frame.specs.declared.Refusal.the-variants.{OutOfRange}
+use Rattle.coupler.specs.declared.Acknowledgement.{Acknowledgement}
+use Rattle.coupler.specs.declared.Acknowledgement.the-variants.{Silence, Acknowledged}
+use Rattle.coupler.specs.declared.Outcome.{Outcome}
+use Rattle.coupler.specs.declared.Remembered.{Remembered}
+use Rattle.coupler.specs.declared.Memory.{Memory}
+use Rattle.coupler.specs.Memory.{recalled, sideOf}
+use Rattle.coupler.specs.Step.{Setting, Heard, nothing, heard, outcomeOf, sent, memoryAfter}
+
+-- the frame that one side's 265 octets hold
+abbrev pub rememberedIn : List ℕ → Remembered
+rememberedIn half = record { size = wordAt half 0; octets = take 263 (drop 2 half) }
+
+abbrev pub memoryIn : List ℕ → Memory
+memoryIn block = record { main = rememberedIn (take 265 block); sub = rememberedIn (drop 265 block) }
+
+abbrev pub halfOf : Remembered → List ℕ
+halfOf r = high (r .size) ∷ low (r .size) ∷ r .octets
+
+unfoldable pub blockOf : Memory → List ℕ
+blockOf m = halfOf (m .main) ++ halfOf (m .sub)
+
+-- where a side's half begins, how many octets of it are the frame's, and the block with a frame put there
+abbrev pub startOf : ℕ → ℕ
+startOf side = cond (eqb side 0) 0 265
+
+abbrev pub keptIn : List ℕ → ℕ → ℕ
+keptIn block start = cond (leb (wordAt block start) 263) (wordAt block start) 0
+
+unfoldable pub rememberedAt : ℕ → List ℕ → List ℕ → List ℕ
+rememberedAt start s block = laid s (start + 2) (laid (high (length s % 65536) ∷ low (length s % 65536) ∷ []) start block)
+
+-- the eight codes of the surface, main to sub and then sub to main
+abbrev pub codesIn : List ℕ → List (List ℕ)
+codesIn s =
+    (octetAt s 0 ∷ octetAt s 1 ∷ octetAt s 2 ∷ octetAt s 3 ∷ [])
+    ∷ (octetAt s 4 ∷ octetAt s 5 ∷ octetAt s 6 ∷ octetAt s 7 ∷ [])
+    ∷ []
+
+-- CCh, or 0 for none
+abbrev pub acknowledgementNumber : Acknowledgement → ℕ
+acknowledgementNumber Silence = 0
+acknowledgementNumber Acknowledged = 0xCC
+
+-- bits 0 to 7 the number, 8 to 15 the acknowledgement, 16 for itself, 32 to 47 the octets forwarded (no step sends more than 270)
+unfoldable pub outcomeNumber : Outcome → ℕ
+outcomeNumber o = o .number + acknowledgementNumber (o .acknowledgement) * 2 ^ 8 + weigh (o .own) 1 * 2 ^ 16 + o .forwarded % 65536 * 2 ^ 32
+
+-- "a block of another size is 14": before any other refusal
+abbrev pub lentRight : List ℕ → List ℕ → Bool
+lentRight codes block = eqb (length codes) 8 && eqb (length block) 530
+
+unfoldable pub heardThrough : Bool → Setting → List ℕ → ℕ → Heard
+heardThrough right k s room = cond right (heard k s room) (nothing OutOfRange)
+
+-- a step through the surface: what the step inside does, its answer as a number and its memory in the block
+pub record SteppedThrough (right : Bool) (k : Setting) (block s room : List ℕ) (answer : ℕ) (block′ room′ : List ℕ) : Type 0 where
+  pub answered : answer ≡ outcomeNumber (outcomeOf k (recalled (sideOf (memoryIn block) (k .side))) (heardThrough right k s (length room)))
+  pub left : room′ ≡ over (sent k (recalled (sideOf (memoryIn block) (k .side))) (heardThrough right k s (length room))) room
+  pub memory : block′ ≡ cond right (blockOf (memoryAfter k (memoryIn block) s (heardThrough right k s (length room)))) block
