@@ -174,3 +174,10 @@ heard-size k s n m p o e f = settled (firstOf (settingTests k n)) (rw f at e)
     settled : (v : Verdict) → after v (heardTp1 (readTp1 s) s) ≡ frame m p → length s ≤ 263
     settled pass z = answered (readTp1 s) refl z
     settled (refuse r) z = let y : _≡_ {A = ℕ} 0 1 = cc in absurd (omega arith)
+
+-- two outcomes that a contract allows coincide
+pub handed-one : {k : Setting} {remembered room : List ℕ} {h : Heard} {o₁ o₂ : Outcome} {r₁ r₂ : List ℕ} → HandedOn k remembered h room o₁ r₁ → HandedOn k remembered h room o₂ r₂ → (o₁ ≡ o₂) × (r₁ ≡ r₂)
+handed-one x y = (x .outcome ∙ sym (y .outcome), x .left ∙ sym (y .left))
+
+pub did-one : {k : Setting} {m : Memory} {s room : List ℕ} {o₁ o₂ : Outcome} {m₁ m₂ : Memory} {r₁ r₂ : List ℕ} → Did k m s room o₁ m₁ r₁ → Did k m s room o₂ m₂ r₂ → (o₁ ≡ o₂) × ((m₁ ≡ m₂) × (r₁ ≡ r₂))
+did-one x y = let e = handed-one (x .handed) (y .handed) in (e .0, (x .memory ∙ sym (y .memory), e .1))

@@ -2,7 +2,9 @@
 use mathlib.Core.Path.{_≡_, refl, sym, _∙_}
 use Rattle.octets.proofs.Part.{part-one}
 use Rattle.frame.proofs.Writing.{wrote-one}
+use Rattle.coupler.proofs.StepLaws.{handed-one, did-one}
 use Rattle.klumdray.proofs.Surface.{wrote-number-one}
+use Rattle.klumdray.proofs.BlockLaws.{stepped-one}
 use Rattle.promises.proofs.Stated.{Stated, StatedBy, SamePart}
 use Rattle.octets.proofs.octet.Kinds as octets-octet-kinds
 use Rattle.octets.proofs.octet.Reads as octets-octet-reads
@@ -34,6 +36,8 @@ use Rattle.tp1.proofs.read.Kinds as tp1-read-kinds
 use Rattle.tp1.proofs.read.Reads as tp1-read-reads
 use Rattle.tp1.proofs.payload.Kinds as tp1-payload-kinds
 use Rattle.tp1.proofs.payload.Reads as tp1-payload-reads
+use Rattle.tp1.proofs.meaning_in.Kinds as tp1-meaning-in-kinds
+use Rattle.tp1.proofs.meaning_in.Reads as tp1-meaning-in-reads
 use Rattle.tp1.proofs.write.Kinds as tp1-write-kinds
 use Rattle.tp1.proofs.write.Reads as tp1-write-reads
 use Rattle.cemi.proofs.read.Kinds as cemi-read-kinds
@@ -58,6 +62,22 @@ use Rattle.routing.proofs.information.Kinds as routing-information-kinds
 use Rattle.routing.proofs.information.Reads as routing-information-reads
 use Rattle.routing.proofs.write.Kinds as routing-write-kinds
 use Rattle.routing.proofs.write.Reads as routing-write-reads
+use Rattle.coupler.proofs.settings.are_codes.Kinds as coupler-are-codes-kinds
+use Rattle.coupler.proofs.settings.are_codes.Reads as coupler-are-codes-reads
+use Rattle.coupler.proofs.settings.asks_table.Kinds as coupler-asks-table-kinds
+use Rattle.coupler.proofs.settings.asks_table.Reads as coupler-asks-table-reads
+use Rattle.coupler.proofs.settings.table_fits.Kinds as coupler-table-fits-kinds
+use Rattle.coupler.proofs.settings.table_fits.Reads as coupler-table-fits-reads
+use Rattle.coupler.proofs.may_pass.Kinds as coupler-may-pass-kinds
+use Rattle.coupler.proofs.may_pass.Reads as coupler-may-pass-reads
+use Rattle.coupler.proofs.hopped_count.Kinds as coupler-hopped-count-kinds
+use Rattle.coupler.proofs.hopped_count.Reads as coupler-hopped-count-reads
+use Rattle.coupler.proofs.hand_on.Kinds as coupler-hand-on-kinds
+use Rattle.coupler.proofs.hand_on.Reads as coupler-hand-on-reads
+use Rattle.coupler.proofs.nothing_remembered.Kinds as coupler-nothing-remembered-kinds
+use Rattle.coupler.proofs.nothing_remembered.Reads as coupler-nothing-remembered-reads
+use Rattle.coupler.proofs.step.Kinds as coupler-step-kinds
+use Rattle.coupler.proofs.step.Reads as coupler-step-reads
 use Rattle.klumdray.proofs.klumdray_check_octet.Kinds as klumdray-check-octet-kinds
 use Rattle.klumdray.proofs.klumdray_check_octet.Reads as klumdray-check-octet-reads
 use Rattle.klumdray.proofs.klumdray_tp1_read.Kinds as klumdray-tp1-read-kinds
@@ -72,6 +92,8 @@ use Rattle.klumdray.proofs.klumdray_routing_read.Kinds as klumdray-routing-read
 use Rattle.klumdray.proofs.klumdray_routing_read.Reads as klumdray-routing-read-reads
 use Rattle.klumdray.proofs.klumdray_routing_write.Kinds as klumdray-routing-write-kinds
 use Rattle.klumdray.proofs.klumdray_routing_write.Reads as klumdray-routing-write-reads
+use Rattle.klumdray.proofs.klumdray_step.Kinds as klumdray-step-kinds
+use Rattle.klumdray.proofs.klumdray_step.Reads as klumdray-step-reads
 
 -- octets
 
@@ -124,6 +146,9 @@ tp1-read-stated = record { determines = λ κs args r₁ r₂ w₁ w₂ x y. (x 
 pub tp1-payload-stated : StatedBy tp1-payload-kinds.ps tp1-payload-kinds.r (λ κs. SamePart) tp1-payload-reads.Pre tp1-payload-reads.Post (λ κs a. tp1-payload-reads.ensures κs a tt)
 tp1-payload-stated = record { determines = λ κs args r₁ r₂ w₁ w₂ x y. (part-one x y, refl); free = λ κs args. tt; whole = λ κs args r e w. refl }
 
+pub tp1-meaning-in-stated : Stated tp1-meaning-in-kinds.ps tp1-meaning-in-kinds.r tp1-meaning-in-reads.Pre tp1-meaning-in-reads.Post (λ κs a. tp1-meaning-in-reads.ensures κs a tt)
+tp1-meaning-in-stated = record { determines = λ κs args r₁ r₂ w₁ w₂ x y. (x ∙ sym y, refl); free = λ κs args. tt; whole = λ κs args r e w. refl }
+
 pub tp1-write-stated : Stated tp1-write-kinds.ps tp1-write-kinds.r tp1-write-reads.Pre tp1-write-reads.Post (λ κs a. tp1-write-reads.ensures κs a tt)
 tp1-write-stated = record { determines = λ κs args r₁ r₂ w₁ w₂ x y. let e = wrote-one x y in (e .0, λ i. (tt, (tt, (e .1 i, tt)))); free = λ κs args. tt; whole = λ κs args r e w. refl }
 
@@ -164,6 +189,32 @@ routing-information-stated = record { determines = λ κs args r₁ r₂ w₁ w�
 pub routing-write-stated : Stated routing-write-kinds.ps routing-write-kinds.r routing-write-reads.Pre routing-write-reads.Post (λ κs a. routing-write-reads.ensures κs a tt)
 routing-write-stated = record { determines = λ κs args r₁ r₂ w₁ w₂ x y. let e = wrote-one x y in (e .0, λ i. (tt, (tt, (e .1 i, tt)))); free = λ κs args. tt; whole = λ κs args r e w. refl }
 
+-- coupler
+
+pub coupler-are-codes-stated : Stated coupler-are-codes-kinds.ps coupler-are-codes-kinds.r coupler-are-codes-reads.Pre coupler-are-codes-reads.Post (λ κs a. coupler-are-codes-reads.ensures κs a tt)
+coupler-are-codes-stated = record { determines = λ κs args r₁ r₂ w₁ w₂ x y. (x ∙ sym y, refl); free = λ κs args. tt; whole = λ κs args r e w. refl }
+
+pub coupler-asks-table-stated : Stated coupler-asks-table-kinds.ps coupler-asks-table-kinds.r coupler-asks-table-reads.Pre coupler-asks-table-reads.Post (λ κs a. coupler-asks-table-reads.ensures κs a tt)
+coupler-asks-table-stated = record { determines = λ κs args r₁ r₂ w₁ w₂ x y. (x ∙ sym y, refl); free = λ κs args. tt; whole = λ κs args r e w. refl }
+
+pub coupler-table-fits-stated : Stated coupler-table-fits-kinds.ps coupler-table-fits-kinds.r coupler-table-fits-reads.Pre coupler-table-fits-reads.Post (λ κs a. coupler-table-fits-reads.ensures κs a tt)
+coupler-table-fits-stated = record { determines = λ κs args r₁ r₂ w₁ w₂ x y. (x ∙ sym y, refl); free = λ κs args. tt; whole = λ κs args r e w. refl }
+
+pub coupler-may-pass-stated : Stated coupler-may-pass-kinds.ps coupler-may-pass-kinds.r coupler-may-pass-reads.Pre coupler-may-pass-reads.Post (λ κs a. coupler-may-pass-reads.ensures κs a tt)
+coupler-may-pass-stated = record { determines = λ κs args r₁ r₂ w₁ w₂ x y. (x ∙ sym y, refl); free = λ κs args. tt; whole = λ κs args r e w. refl }
+
+pub coupler-hopped-count-stated : Stated coupler-hopped-count-kinds.ps coupler-hopped-count-kinds.r coupler-hopped-count-reads.Pre coupler-hopped-count-reads.Post (λ κs a. coupler-hopped-count-reads.ensures κs a tt)
+coupler-hopped-count-stated = record { determines = λ κs args r₁ r₂ w₁ w₂ x y. (x ∙ sym y, refl); free = λ κs args. tt; whole = λ κs args r e w. refl }
+
+pub coupler-hand-on-stated : Stated coupler-hand-on-kinds.ps coupler-hand-on-kinds.r coupler-hand-on-reads.Pre coupler-hand-on-reads.Post (λ κs a. coupler-hand-on-reads.ensures κs a tt)
+coupler-hand-on-stated = record { determines = λ κs args r₁ r₂ w₁ w₂ x y. let e = handed-one x y in (e .0, λ i. (tt, (tt, (tt, (tt, (tt, (tt, (tt, (e .1 i, tt))))))))); free = λ κs args. tt; whole = λ κs args r e w. refl }
+
+pub coupler-nothing-remembered-stated : Stated coupler-nothing-remembered-kinds.ps coupler-nothing-remembered-kinds.r coupler-nothing-remembered-reads.Pre coupler-nothing-remembered-reads.Post (λ κs a. coupler-nothing-remembered-reads.ensures κs a tt)
+coupler-nothing-remembered-stated = record { determines = λ κs args r₁ r₂ w₁ w₂ x y. (x ∙ sym y, refl); free = λ κs args. tt; whole = λ κs args r e w. refl }
+
+pub coupler-step-stated : Stated coupler-step-kinds.ps coupler-step-kinds.r coupler-step-reads.Pre coupler-step-reads.Post (λ κs a. coupler-step-reads.ensures κs a tt)
+coupler-step-stated = record { determines = λ κs args r₁ r₂ w₁ w₂ x y. let e = did-one x y in ((λ i. record { outcome = e .0 i; memory = e .1 .0 i }), λ i. (tt, (tt, (tt, (tt, (tt, (tt, (tt, (e .1 .1 i, tt))))))))); free = λ κs args. tt; whole = λ κs args r e w. refl }
+
 -- klumdray
 
 pub klumdray-check-octet-stated : Stated klumdray-check-octet-kinds.ps klumdray-check-octet-kinds.r klumdray-check-octet-reads.Pre klumdray-check-octet-reads.Post (λ κs a. klumdray-check-octet-reads.ensures κs a tt)
@@ -186,3 +237,6 @@ klumdray-routing-read-stated = record { determines = λ κs args r₁ r₂ w₁ 
 
 pub klumdray-routing-write-stated : Stated klumdray-routing-write-kinds.ps klumdray-routing-write-kinds.r klumdray-routing-write-reads.Pre klumdray-routing-write-reads.Post (λ κs a. klumdray-routing-write-reads.ensures κs a tt)
 klumdray-routing-write-stated = record { determines = λ κs args r₁ r₂ w₁ w₂ x y. let e = wrote-number-one x y in (e .0, λ i. (tt, (tt, (tt, (tt, (tt, (tt, (tt, (tt, (tt, (tt, (e .1 i, tt)))))))))))); free = λ κs args. tt; whole = λ κs args r e w. refl }
+
+pub klumdray-step-stated : Stated klumdray-step-kinds.ps klumdray-step-kinds.r klumdray-step-reads.Pre klumdray-step-reads.Post (λ κs a. klumdray-step-reads.ensures κs a tt)
+klumdray-step-stated = record { determines = λ κs args r₁ r₂ w₁ w₂ x y. let e = stepped-one x y in (e .0, λ i. (tt, (tt, (tt, (tt, (tt, (e .1 .0 i, (tt, (e .1 .1 i, tt))))))))); free = λ κs args. tt; whole = λ κs args r e w. refl }
