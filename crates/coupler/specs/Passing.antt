@@ -11,8 +11,14 @@ unfoldable pub isOwn : ℕ → Bool → ℕ → Bool
 isOwn line group destination = not group && eqb destination (line * 256)
 
 -- "forward if bit g mod 8 of octet g div 8 in the 8,192-octet filter table is one"
+abbrev pub listedOctet : ℕ → ℕ
+listedOctet g = g / 8
+
+abbrev pub listedBit : ℕ → ℕ
+listedBit g = g % 8
+
 unfoldable pub isListed : List ℕ → ℕ → Bool
-isListed table g = eqb (octetAt table (g / 8) / 2 ^ (g % 8) % 2) 1
+isListed table g = eqb (octetAt table (listedOctet g) / 2 ^ listedBit g % 2) 1
 
 -- "where n mod 16 is not 0, down if the destination's high octet is n ..; otherwise down if the destination's area is the coupler's area"
 unfoldable pub isBelow : ℕ → ℕ → Bool
