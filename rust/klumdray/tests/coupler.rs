@@ -60,8 +60,8 @@ fn compare<'s>(
         }
         for _ in 0..=generator.below(LONGEST_SERIES) {
             if extent.spoils_sizes && generator.below(100) == 0 {
-                let size = 264 + generator.below(65_536 - 264) as u16;
-                comparison.spoil_size(generator.below(2) as usize, size);
+                let more = [0, generator.below(65_536 - 264)][generator.below(2) as usize];
+                comparison.spoil_size(generator.below(2) as usize, 264 + more as u16);
             }
             let step = series.step(generator);
             comparison.step(series.setting(&step), step.memory, &step.octets, step.room)?;
@@ -156,7 +156,11 @@ fn assert_passes(coupler: &Coupler<'_>, group: bool, destinations: &[u16]) -> u6
                 own,
                 forwarded: if passes { octets.len() } else { 0 },
             }));
-            assert_eq!(answer, expected, "{setting:?} {destination:04x}");
+            let line = coupler.line;
+            assert_eq!(
+                answer, expected,
+                "line {line:02x} side {number} to {destination:04x}"
+            );
             passed += u64::from(passes);
         }
     }
@@ -172,16 +176,21 @@ fn all_groups_agree() {
         codes: [[0, 2, 1, 1], [0, 0, 1, 1]],
         table: &table,
     };
+    println!("all group addresses, both directions, KLUMDRAY_SEED={seed:#x}");
     let groups: Vec<u16> = (0..=0xffff).collect();
     let passed = assert_passes(&coupler, true, &groups);
-    println!("all group addresses, both directions, KLUMDRAY_SEED={seed:#x}: {passed} passed");
+    println!("{} asked, {passed} passed", 2 * groups.len());
     assert!((60_000..71_000).contains(&passed));
+}
+
+fn is_emulated() -> bool {
+    env!("KLUMDRAY_LINKED") == "emulated"
 }
 
 /// All, or a sample where each call goes to an emulated process: the first and the last address of
 /// each line, and so of each area, and others at equal distances from a start by the seed.
 fn destinations(generator: &mut Generator) -> Vec<u16> {
-    if env!("KLUMDRAY_LINKED") != "emulated" {
+    if !is_emulated() {
         return (0..=0xffff).collect();
     }
     let borders = (0..=0xff).flat_map(|high: u16| [high << 8, high << 8 | 0xff]);
@@ -192,6 +201,12 @@ fn destinations(generator: &mut Generator) -> Vec<u16> {
 #[test]
 fn individual_addresses_agree_on_all_lines() {
     let seed = seed();
+    let extent = if is_emulated() {
+        "SAMPLED, since the library is emulated"
+    } else {
+        "all 65,536"
+    };
+    println!("individual addresses: {extent}; 255 lines, both directions, KLUMDRAY_SEED={seed:#x}");
     let generator = &mut Generator::new(seed);
     let (mut asked, mut passed) = (0, 0);
     for line in 1..=255 {
@@ -204,11 +219,6 @@ fn individual_addresses_agree_on_all_lines() {
         asked += 2 * destinations.len();
         passed += assert_passes(&coupler, false, &destinations);
     }
-    let extent = match asked {
-        33_423_360 => "all 65,536 on",
-        _ => "SAMPLED, since the library is emulated:",
-    };
-    println!("individual addresses, {extent} 255 lines, both directions, KLUMDRAY_SEED={seed:#x}");
     println!("{asked} asked, {passed} passed");
 }
 
