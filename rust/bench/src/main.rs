@@ -1,6 +1,7 @@
 //! Times of the proved library beside the reference: same inputs, same run, as ratios.
 
 mod cemi;
+mod coupler;
 mod inputs;
 mod measure;
 mod routing;
@@ -16,7 +17,10 @@ fn main() {
     println!(
         "answer as each gives it: the library one number, the reference a frame; a read and its"
     );
-    println!("parts goes through the bindings.");
+    println!(
+        "parts goes through the bindings. From one medium to another is a coupler step with a"
+    );
+    println!("filter table; its size is the frame's on TP1.");
     if !cfg!(target_arch = "x86_64") {
         println!("NOT A MEASUREMENT: the library's code is for x86-64, and this machine is not.");
     }
@@ -25,4 +29,5 @@ fn main() {
     tp1::rows();
     cemi::rows();
     routing::rows();
+    coupler::rows();
 }
