@@ -21,8 +21,12 @@ fn main() {
         "parts goes through the bindings. From one medium to another is a coupler step with a"
     );
     println!("filter table; its size is the frame's on TP1.");
-    if !cfg!(target_arch = "x86_64") {
-        println!("NOT A MEASUREMENT: the library's code is for x86-64, and this machine is not.");
+    match klumdray::LINKED {
+        "staticlib" => {}
+        "native" => {
+            println!("This machine is not x86-64: the library's own LLVM module was compiled for it.");
+        }
+        _ => println!("NOT A MEASUREMENT: the library's code is for x86-64 and runs emulated here."),
     }
     println!();
     measure::print_heading();

@@ -27,6 +27,9 @@ pub mod tp1;
 pub use meaning::Meaning;
 pub use refusal::Refusal;
 
+/// Which build of the proved library is linked: `staticlib` (x86-64), `emulated` or `native`.
+pub const LINKED: &str = env!("KLUMDRAY_LINKED");
+
 /// The check octet: the ones' complement of the exclusive or of all octets given.
 ///
 /// ```

@@ -184,7 +184,7 @@ fn all_groups_agree() {
 }
 
 fn is_emulated() -> bool {
-    env!("KLUMDRAY_LINKED") == "emulated"
+    klumdray::LINKED == "emulated"
 }
 
 /// All, or a sample where each call goes to an emulated process: the first and the last address of
