@@ -14,7 +14,7 @@ use Rattle.coupler.proofs.StepLaws.{forwarded-ranged, indication-ranged
 use Rattle.coupler.specs.Memory.{kept, recalled, remembering, sideOf, rememberedOn}
 use Rattle.coupler.specs.Passing.{isOwn, mayPass}
 use Rattle.coupler.specs.Series.{Input, Done, doneBy, series, Follows}
-use Rattle.coupler.specs.Step.{Setting, fromIp, toIp, Heard, isAllowed, repeats, isForwarded, acknowledgementOf, forwardedMeaning, indication, formOf, forwardedOctets, refusedOutcome, outcomeOf, sent, memoryAfter, Did, frame, nothing}
+use Rattle.coupler.specs.Step.{Setting, fromIp, toIp, Heard, isAllowed, repeats, isForwarded, acknowledgementBy, forwardedMeaning, indication, formOf, forwardedOctets, refusedOutcome, outcomeOf, sent, memoryAfter, Did, frame, nothing}
 use Rattle.coupler.specs.declared.Acknowledgement.the-variants.{Silence, Acknowledged}
 use Rattle.coupler.specs.declared.Memory.{Memory}
 use Rattle.coupler.specs.declared.Remembered.{Remembered}
@@ -90,7 +90,7 @@ sent-reads-ip k m p v e = rw e (routing-read (indication (forwardedMeaning m)) p
 -- "A TP1 frame gets CCh exactly if it is for the coupler itself or, repetition or not, its address, codes and count allow forwarding"
 pub acknowledged-iff : (k : Setting) (remembered : List ℕ) (m : Meaning) (p : List ℕ) → outcomeOf k remembered (frame m p) .acknowledgement ≡ Acknowledged
     ↔ ((fromIp k ≡ false) × (isOwn (k .line) (m .group) (m .destination) || isAllowed k m ≡ true))
-unfolding acknowledgementOf
+unfolding acknowledgementBy
 acknowledged-iff k remembered m p = go (not (fromIp k)) (isOwn (k .line) (m .group) (m .destination) || isAllowed k m) refl
   where
     go : (a b : Bool) → not (fromIp k) ≡ a → cond (a && b) Acknowledged Silence ≡ Acknowledged ↔ ((fromIp k ≡ false) × (b ≡ true))

@@ -10,9 +10,9 @@ use Rattle.routing.specs.Reading.{readRouting}
 use Rattle.coupler.specs.Settings.{classOf, isCode, isRow, areCodes, asksTable, tableFits}
 use Rattle.coupler.specs.Passing.{isOwn, isListed, isBelow, isRuled, mayPass}
 use Rattle.coupler.specs.Memory.{isRepetition}
-use Rattle.coupler.specs.Step.{heard, acknowledgementOf, formOf}
+use Rattle.coupler.specs.Step.{heard, acknowledgementBy, formOf}
 use Rattle.promises.specs.Telegrams.{Every, cases}
 
 pub every : Every cases
-unfolding checkOctet isControl controlOf ctrleOf fieldsMeaning head sealed tp1Octets isExtended headSize isOtherFormat isEscape frameSize isChecked meaningIn readFrom body isOtherBody isEscapeBody isLongStandard bodySize messageIn isOtherHeader isOtherService isOtherLength readRouting classOf isCode isRow areCodes asksTable tableFits isOwn isListed isBelow isRuled mayPass isRepetition heard acknowledgementOf formOf
+unfolding checkOctet isControl controlOf ctrleOf fieldsMeaning head sealed tp1Octets isExtended headSize isOtherFormat isEscape frameSize isChecked meaningIn readFrom body isOtherBody isEscapeBody isLongStandard bodySize messageIn isOtherHeader isOtherService isOtherLength readRouting classOf isCode isRow areCodes asksTable tableFits isOwn isListed isBelow isRuled mayPass isRepetition heard acknowledgementBy formOf
 every = (refl, (refl, (refl, (refl, (refl, (refl, ((refl, refl), ((refl, refl), ((refl, refl), ((refl, refl), ((refl, refl), ((refl, refl), tt))))))))))))
