@@ -1,3 +1,4 @@
+-- Each arm settles the definition's test.
 use Rattle.coupler.specs.Step.{acknowledgementBy}
 use Rattle.coupler.proofs.forwarding.acknowledgement.Statement.{statement}
 use Rattle.coupler.proofs.forwarding.acknowledgement.Tie as tie

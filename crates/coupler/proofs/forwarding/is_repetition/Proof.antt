@@ -1,3 +1,4 @@
+-- A first sending is none; otherwise the remembered frame's fields, as `meaning_in` hands them out.
 use borrow.Author.Needs.{needs}
 use Rattle.coupler.specs.Memory.{isRepetition}
 use Rattle.coupler.proofs.forwarding.is_repetition.Statement.{statement}
