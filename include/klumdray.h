@@ -1,13 +1,14 @@
 /*
  * Klumdray: the surface of the proved library libklumdray.a, numbers and octets only.
  *
- * Document 01 ("Frame layouts", "Refusal numbers") says what each call does; each call is proved
- * to do it for every input.
+ * Document 01 ("Frame layouts", "Refusal numbers", "The coupler") says what each call does; each
+ * call is proved to do it for every input.
  *
  * Octets. A slice is a pointer and then a length; a null pointer with length 0 is an empty slice.
  * Otherwise the pointer must have that many octets behind it. All octets stay the caller's: a call
- * reads those lent as const, writes only the room lent for it, keeps no pointer and no memory
- * between calls. A room must not overlap the payload. Calls may be made from several threads.
+ * reads those lent as const, writes only the room and the memory lent for it, keeps no pointer and
+ * no memory of its own between calls. A room or a memory must not overlap anything else lent to
+ * the same call. Calls may be made from several threads.
  *
  * Refusals. Every answer carries a number: 0 is not a refusal. A refused call has written nothing.
  *
@@ -26,6 +27,8 @@
  *   12  total length differs from the datagram's
  *   13  lent room too small
  *   14  a number given by the caller is outside its range
+ *   15  own line 00h, or a setting code not allowed
+ *   18  filter table missing or of wrong size
  *
  * A reader's answer is one number of 64 bits. With a refusal every bit above 7 is 0.
  *
@@ -48,6 +51,26 @@
  *
  * A writer's answer: bits 0 to 7 the number, bits 8 to 63 the octets written, 0 with a refusal.
  * The frame is the first octets of the room; those behind it stay as they were.
+ *
+ * A step's answer. With a refusal every bit above 7 is 0.
+ *
+ *   bits  0 to  7  the number
+ *   bits  8 to 15  acknowledgement: CCh, or 0 for none
+ *   bit  16        for the coupler itself
+ *   bits 17 to 31  0
+ *   bits 32 to 63  octets forwarded, the first of the room; 0 if none
+ *
+ * A step's memory is a block of 530 octets, which the caller lends to every step of one coupler. At
+ * the start all of them are 0.
+ *
+ *   octets   0 to   1  size of the frame remembered of the main side, high octet first; 0: none
+ *   octets   2 to 264  that frame, from octet 2 on
+ *   octets 265 to 266  size of the frame remembered of the sub side, high octet first; 0: none
+ *   octets 267 to 529  that frame, from octet 267 on
+ *
+ * A size above 263 counts as none. After a TP1 frame that is not refused, the receiving side's size
+ * is the frame's and its octets are the frame; those behind the frame and the other side's stay.
+ * After a frame from IP, and after a refusal, the whole block is as it was.
  */
 #ifndef KLUMDRAY_H
 #define KLUMDRAY_H
@@ -116,6 +139,39 @@ uint64_t klumdray_routing_write(uint8_t code, uint8_t error_mark, uint8_t extend
                                 uint8_t first_sending, uint8_t priority, uint16_t source,
                                 uint8_t group, uint16_t destination, uint8_t count,
                                 const uint8_t *payload, size_t n, uint8_t *room, size_t m);
+
+/* The coupler's numbers and sizes. */
+enum {
+    KLUMDRAY_MAIN = 0,
+    KLUMDRAY_SUB = 1,
+    KLUMDRAY_TP1 = 0,
+    KLUMDRAY_IP = 1,
+    KLUMDRAY_CODES_SIZE = 8,
+    KLUMDRAY_TABLE_SIZE = 8192,
+    KLUMDRAY_MEMORY_SIZE = 530,
+    KLUMDRAY_ROOM_SIZE = 272
+};
+
+/*
+ * One coupler step: a frame received from one side is acknowledged or not, forwarded to the other
+ * side or not, and remembered.
+ *   line: the coupler's own, 01h to FFh
+ *   codes: 8 octets, four for main to sub and then four for sub to main, in the order
+ *     individual (0, 1, 2), broadcast (0, 2), groups 0001h to 6FFFh (0, 1, 2), groups 7000h to
+ *     FFFFh (0, 1, 2)
+ *   table: the filter table, 8,192 octets, or 0 where no group code is 1
+ *   side: the receiving side, 0 main, 1 sub   medium: of the main side, 0 TP1, 1 IP
+ *   memory: 530 octets, laid out as above
+ *   octets: a TP1 frame, or a routing datagram where side is 0 and medium is 1
+ *   room: at least 272 octets
+ * Refusals, the first that applies: codes not 8 or memory not 530 octets long (14), 15, 18, side or
+ * medium (14), room (13), then as klumdray_tp1_read or klumdray_routing_read. A refused step leaves
+ * room and memory as they were.
+ */
+uint64_t klumdray_step(uint8_t line, const uint8_t *codes, size_t codes_length,
+                       const uint8_t *table, size_t table_length, uint8_t side, uint8_t medium,
+                       uint8_t *memory, size_t memory_length, const uint8_t *octets, size_t length,
+                       uint8_t *room, size_t room_length);
 
 /* The number in any answer: 0, or the refusal's. */
 static inline uint8_t klumdray_number(uint64_t answer)
@@ -224,6 +280,43 @@ static inline size_t klumdray_routing_information_start(void)
 static inline size_t klumdray_routing_information_length(uint64_t answer, size_t n)
 {
     return n - klumdray_payload_length(answer) - 15u;
+}
+
+/* A step's answer: CCh, or 0 for no acknowledgement. */
+static inline uint8_t klumdray_acknowledgement(uint64_t answer)
+{
+    return (uint8_t)(answer >> 8 & 0xFFu);
+}
+
+/* A step's answer: 1 if the frame is for the coupler itself, else 0. */
+static inline uint8_t klumdray_own(uint64_t answer)
+{
+    return (uint8_t)(answer >> 16 & 1u);
+}
+
+/* A step's answer: the octets forwarded, 0 if none. */
+static inline size_t klumdray_forwarded(uint64_t answer)
+{
+    return (size_t)(answer >> 32);
+}
+
+/* Where a side's part of the memory begins: its size, then its frame. */
+static inline const uint8_t *klumdray_remembered_part(const uint8_t *memory, uint8_t side)
+{
+    return memory + (side == KLUMDRAY_SUB ? 265u : 0u);
+}
+
+/* The size of the frame remembered of a side, 0 if there is none, and where it begins. */
+static inline size_t klumdray_remembered_size(const uint8_t *memory, uint8_t side)
+{
+    const uint8_t *part = klumdray_remembered_part(memory, side);
+    size_t size = (size_t)part[0] << 8 | part[1];
+    return size > 263u ? 0u : size;
+}
+
+static inline const uint8_t *klumdray_remembered(const uint8_t *memory, uint8_t side)
+{
+    return klumdray_remembered_part(memory, side) + 2;
 }
 
 #ifdef __cplusplus

@@ -15,17 +15,19 @@ fn main() {
     };
     println!("cargo:rerun-if-env-changed=KLUMDRAY_LIBRARY");
     let named = env::var("KLUMDRAY_LIBRARY");
-    let (folder, command) = match &named {
+    let (name, command) = match &named {
         Ok(name) => (name.as_str(), "tools/native-library"),
         Err(_) => (folder, command),
     };
-    let folder = PathBuf::from(package).join("../../target").join(folder);
+    let folder = PathBuf::from(package).join("../../target").join(name);
     let archive = folder.join("libklumdray.a");
     println!("cargo:rerun-if-changed={}", archive.display());
     if !archive.is_file() {
         eprintln!("{} is missing; run: {command}", archive.display());
         process::exit(1);
     }
+    // Tests ask less where each call goes to an emulated process.
+    println!("cargo:rustc-env=KLUMDRAY_LINKED={name}");
     println!("cargo:rustc-link-search=native={}", folder.display());
     println!("cargo:rustc-link-lib=static=klumdray");
 }

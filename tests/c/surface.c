@@ -1,4 +1,7 @@
-/* The C surface as a C program meets it: empty slices, document 01's P1 to P6, P7's datagram. */
+/*
+ * The C surface as a C program meets it: empty slices, document 01's P1 to P6, P7's datagram, and
+ * steps of a coupler with P7 to P10.
+ */
 #include "klumdray.h"
 
 #include <stdio.h>
@@ -176,6 +179,165 @@ static void datagram_written(void)
     check("P7's message is written", memcmp(room, P7 + 6, sizeof P7 - 6) == 0);
 }
 
+/* A coupler's line, codes, memory and room. */
+struct coupler {
+    uint8_t line;
+    uint8_t codes[KLUMDRAY_CODES_SIZE];
+    uint8_t memory[KLUMDRAY_MEMORY_SIZE];
+    uint8_t room[KLUMDRAY_ROOM_SIZE];
+};
+
+/* A coupler whose eight codes are all the same, with nothing remembered. */
+static struct coupler coupler(uint8_t line, uint8_t code)
+{
+    struct coupler c;
+    c.line = line;
+    memset(c.codes, code, sizeof c.codes);
+    memset(c.memory, 0, sizeof c.memory);
+    memset(c.room, 0x55, sizeof c.room);
+    return c;
+}
+
+/* A step without a filter table. */
+static uint64_t step(struct coupler *c, uint8_t side, uint8_t medium, const uint8_t *octets,
+                     size_t n)
+{
+    return klumdray_step(c->line, c->codes, sizeof c->codes, NULL, 0, side, medium, c->memory,
+                         sizeof c->memory, octets, n, c->room, sizeof c->room);
+}
+
+static int is_forwarded(const struct coupler *c, uint64_t answer, const uint8_t *octets, size_t n)
+{
+    return klumdray_forwarded(answer) == n && memcmp(c->room, octets, n) == 0 &&
+           untouched(c->room + n, sizeof c->room - n);
+}
+
+static int is_blank(const uint8_t *memory)
+{
+    static const uint8_t blank[KLUMDRAY_MEMORY_SIZE];
+    return memcmp(memory, blank, sizeof blank) == 0;
+}
+
+/* P7 with another octet of AT and count, from IP. */
+static uint64_t step_from_ip(struct coupler *c, uint8_t ctrl2)
+{
+    uint8_t datagram[sizeof P7];
+    memcpy(datagram, P7, sizeof P7);
+    datagram[9] = ctrl2;
+    return step(c, KLUMDRAY_MAIN, KLUMDRAY_IP, datagram, sizeof datagram);
+}
+
+static void steps_from_ip(void)
+{
+    static const uint8_t p9[] = {0xBC, 0x00, 0x00, 0x12, 0x34, 0xF4,
+                                 0x00, 0x80, 0x56, 0x78, 0x9A, 0xA5};
+    struct coupler c = coupler(0x11, 2);
+    uint64_t answer = step_from_ip(&c, 0xC0);
+    check("P7 is accepted by a step", klumdray_number(answer) == 0);
+    check("P7 gives P1", is_forwarded(&c, answer, P1, sizeof P1));
+    check("nothing from IP is acknowledged", klumdray_acknowledgement(answer) == 0);
+    check("P7 is not for the coupler itself", klumdray_own(answer) == 0);
+    check("the step's other bits are 0", answer == (uint64_t)sizeof P1 << 32);
+    c = coupler(0x11, 2);
+    check("P8 is not forwarded", step_from_ip(&c, 0x80) == 0);
+    check("P8 leaves the room", untouched(c.room, sizeof c.room));
+    check("P9 keeps count 7", is_forwarded(&c, step_from_ip(&c, 0xF0), p9, sizeof p9));
+    check("nothing from IP is remembered", is_blank(c.memory));
+}
+
+static const uint8_t P10[9] = {0xB0, 0xAF, 0xFE, 0x00, 0x00, 0xE1, 0x01, 0x00, 0xFE};
+
+static void steps_from_tp1(void)
+{
+    static const uint8_t onward[] = {0xB0, 0xAF, 0xFE, 0x00, 0x00, 0xD1, 0x01, 0x00, 0xCE};
+    static const uint8_t repeated[] = {0x90, 0xAF, 0xFE, 0x00, 0x00, 0xE1, 0x01, 0x00, 0xDE};
+    struct coupler c = coupler(0xFF, 0);
+    uint64_t answer;
+    c.codes[1] = 2;
+    answer = step(&c, KLUMDRAY_MAIN, KLUMDRAY_TP1, P10, sizeof P10);
+    check("P10 is acknowledged", klumdray_acknowledgement(answer) == 0xCC);
+    check("P10 is forwarded", is_forwarded(&c, answer, onward, sizeof onward));
+    check("P10's size is remembered", klumdray_remembered_size(c.memory, KLUMDRAY_MAIN) == 9);
+    check("P10 is remembered",
+          memcmp(klumdray_remembered(c.memory, KLUMDRAY_MAIN), P10, sizeof P10) == 0);
+    check("nothing of the other side is", klumdray_remembered_size(c.memory, KLUMDRAY_SUB) == 0);
+    memset(c.room, 0x55, sizeof c.room);
+    answer = step(&c, KLUMDRAY_MAIN, KLUMDRAY_TP1, repeated, sizeof repeated);
+    check("a repetition is acknowledged", klumdray_acknowledgement(answer) == 0xCC);
+    check("a repetition is not forwarded", klumdray_forwarded(answer) == 0);
+    check("a repetition leaves the room", untouched(c.room, sizeof c.room));
+    check("a repetition is remembered",
+          memcmp(klumdray_remembered(c.memory, KLUMDRAY_MAIN), repeated, sizeof repeated) == 0);
+    answer = step(&c, KLUMDRAY_SUB, KLUMDRAY_TP1, repeated, sizeof repeated);
+    check("from the other side it is closed", answer == 0);
+    check("and remembered", klumdray_remembered_size(c.memory, KLUMDRAY_SUB) == sizeof repeated);
+}
+
+static void steps_for_itself_and_to_ip(void)
+{
+    static const uint8_t own[] = {0xB0, 0xAF, 0xFE, 0x47, 0x00, 0x60, 0x00, 0x39};
+    uint8_t datagram[sizeof P7];
+    struct coupler c = coupler(0x47, 2);
+    uint64_t answer = step(&c, KLUMDRAY_SUB, KLUMDRAY_IP, own, sizeof own);
+    check("a frame for 4.7.0 is for coupler 4.7 itself", klumdray_own(answer) == 1);
+    check("it is acknowledged", klumdray_acknowledgement(answer) == 0xCC);
+    check("it is not forwarded", klumdray_forwarded(answer) == 0);
+    memcpy(datagram, P7, sizeof P7);
+    datagram[9] = 0xA0;
+    answer = step(&c, KLUMDRAY_SUB, KLUMDRAY_IP, P1, sizeof P1);
+    check("P1 to IP is acknowledged", klumdray_acknowledgement(answer) == 0xCC);
+    check("P1 to IP is a datagram", is_forwarded(&c, answer, datagram, sizeof datagram));
+}
+
+static void steps_with_a_table(void)
+{
+    static uint8_t table[KLUMDRAY_TABLE_SIZE];
+    struct coupler c = coupler(0x11, 0);
+    uint64_t answer;
+    c.codes[2] = 1;
+    check("no filter table where code 1 asks for one is 18",
+          step(&c, KLUMDRAY_MAIN, KLUMDRAY_TP1, P1, sizeof P1) == 18);
+    table[0x1234 / 8] = 1u << 0x1234 % 8;
+    answer = klumdray_step(c.line, c.codes, 8, table, sizeof table, KLUMDRAY_MAIN, KLUMDRAY_TP1,
+                           c.memory, sizeof c.memory, P1, sizeof P1, c.room, sizeof c.room);
+    check("a group in the filter table is forwarded", klumdray_forwarded(answer) == sizeof P1);
+    table[0x1234 / 8] ^= 0xFF;
+    answer = klumdray_step(c.line, c.codes, 8, table, sizeof table, KLUMDRAY_MAIN, KLUMDRAY_TP1,
+                           c.memory, sizeof c.memory, P1, sizeof P1, c.room, sizeof c.room);
+    check("another group is not", klumdray_number(answer) == 0 && klumdray_forwarded(answer) == 0);
+}
+
+static void refused_steps(void)
+{
+    struct coupler c = coupler(0x11, 2);
+    struct coupler closed = coupler(0x00, 3);
+    uint8_t *memory = c.memory, *room = c.room;
+    check("a null memory is 14",
+          klumdray_step(0x11, c.codes, 8, NULL, 0, 0, 0, NULL, 0, P1, 12, room, 272) == 14);
+    check("null codes are 14",
+          klumdray_step(0x11, NULL, 0, NULL, 0, 0, 0, memory, 530, P1, 12, room, 272) == 14);
+    check("a null memory is 14 before 15 and 13",
+          klumdray_step(0x00, c.codes, 8, NULL, 0, 2, 2, NULL, 0, NULL, 0, NULL, 0) == 14);
+    check("a memory of 529 octets is 14",
+          klumdray_step(0x11, c.codes, 8, NULL, 0, 0, 0, memory, 529, P1, 12, room, 272) == 14);
+    check("7 codes are 14",
+          klumdray_step(0x11, c.codes, 7, NULL, 0, 0, 0, memory, 530, P1, 12, room, 272) == 14);
+    check("a null room is 13",
+          klumdray_step(0x11, c.codes, 8, NULL, 0, 0, 0, memory, 530, P1, 12, NULL, 0) == 13);
+    check("a room of 271 octets is 13",
+          klumdray_step(0x11, c.codes, 8, NULL, 0, 0, 0, memory, 530, P1, 12, room, 271) == 13);
+    check("line 00h is 15", step(&closed, 2, 2, NULL, 0) == 15);
+    check("side 2 is 14", step(&c, 2, KLUMDRAY_TP1, P1, sizeof P1) == 14);
+    check("medium 2 is 14", step(&c, KLUMDRAY_SUB, 2, P1, sizeof P1) == 14);
+    check("no octets are 1", step(&c, KLUMDRAY_SUB, KLUMDRAY_TP1, NULL, 0) == 1);
+    check("P1 without its check octet is 1",
+          step(&c, KLUMDRAY_SUB, KLUMDRAY_TP1, P1, sizeof P1 - 1) == 1);
+    check("P1 from IP is 10", step(&c, KLUMDRAY_MAIN, KLUMDRAY_IP, P1, sizeof P1) == 10);
+    check("refused rooms are untouched", untouched(room, sizeof c.room) &&
+                                             untouched(closed.room, sizeof closed.room));
+    check("refused memories are untouched", is_blank(memory) && is_blank(closed.memory));
+}
+
 int main(void)
 {
     empty_slices();
@@ -186,6 +348,11 @@ int main(void)
     datagram();
     message();
     datagram_written();
+    steps_from_ip();
+    steps_from_tp1();
+    steps_for_itself_and_to_ip();
+    steps_with_a_table();
+    refused_steps();
     printf("%u passed, %u failed\n", passed, failed);
     return failed == 0 ? 0 : 1;
 }

@@ -1,7 +1,9 @@
 /*
  * One call as it goes to the library and comes back, on a machine whose programs cannot link it.
- * A request is this head, the octets lent to read, and the room as lent. An answer is the library's
- * number in 8 octets and the room as left. Both machines have the low octet first.
+ * A request is this head, the octets lent to read, and the room as lent; for a step, the codes and
+ * the filter table stand before the octets, and the memory before the room. An answer is the
+ * library's number in 8 octets, the memory and the room as left. Both machines have the low octet
+ * first.
  */
 #ifndef CALL_H
 #define CALL_H
@@ -13,18 +15,22 @@ enum call {
     CALL_CEMI_READ,
     CALL_CEMI_WRITE,
     CALL_ROUTING_READ,
-    CALL_ROUTING_WRITE
+    CALL_ROUTING_WRITE,
+    CALL_STEP
 };
 
 /* A slice of length 0 is lent as the caller lent it: as a null pointer, or not. */
-enum { NULL_OCTETS = 1, NULL_ROOM = 2 };
+enum { NULL_OCTETS = 1, NULL_ROOM = 2, NULL_CODES = 4, NULL_TABLE = 8, NULL_MEMORY = 16 };
 
-/* More octets than any test lends. */
-enum { MOST_OCTETS = 1 << 18 };
+/* More octets than any test lends, in all and as a filter table. */
+enum { MOST_OCTETS = 1 << 18, MOST_TABLE = 1 << 14 };
 
 struct head {
     __UINT64_TYPE__ octets;
     __UINT64_TYPE__ room;
+    __UINT64_TYPE__ codes;
+    __UINT64_TYPE__ table;
+    __UINT64_TYPE__ memory;
     __UINT16_TYPE__ call;
     __UINT16_TYPE__ null;
     __UINT16_TYPE__ source;
@@ -36,7 +42,12 @@ struct head {
     __UINT8_TYPE__ count;
     __UINT8_TYPE__ code;
     __UINT8_TYPE__ error_mark;
-    __UINT8_TYPE__ unused;
+    __UINT8_TYPE__ line;
+    __UINT8_TYPE__ side;
+    __UINT8_TYPE__ medium;
+    /* 1: the filter table is the one sent last, and is not in this request. */
+    __UINT8_TYPE__ table_kept;
+    __UINT8_TYPE__ unused[5];
 };
 
 #endif

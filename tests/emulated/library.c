@@ -25,6 +25,10 @@ uint64_t klumdray_routing_write(uint8_t code, uint8_t error_mark, uint8_t extend
                                 uint8_t first_sending, uint8_t priority, uint16_t source,
                                 uint8_t group, uint16_t destination, uint8_t count,
                                 const uint8_t *payload, size_t n, uint8_t *room, size_t m);
+uint64_t klumdray_step(uint8_t line, const uint8_t *codes, size_t codes_length,
+                       const uint8_t *table, size_t table_length, uint8_t side, uint8_t medium,
+                       uint8_t *memory, size_t memory_length, const uint8_t *octets, size_t length,
+                       uint8_t *room, size_t room_length);
 
 __asm__(".globl _start\n_start:\n xorl %ebp, %ebp\n andq $-16, %rsp\n call serve\n");
 
@@ -80,9 +84,24 @@ int bcmp(const void *a, const void *b, size_t n)
 
 static uint8_t request[sizeof(struct head) + MOST_OCTETS];
 static uint8_t answer[sizeof(uint64_t) + MOST_OCTETS];
+static uint8_t table[MOST_TABLE];
 
-static uint64_t do_call(const struct head *h, const uint8_t *octets, uint8_t *room)
+/* Where a request's parts stand, or null. */
+struct lent {
+    const uint8_t *octets, *codes, *table;
+    uint8_t *memory, *room;
+};
+
+static uint64_t do_step(const struct head *h, struct lent lent)
 {
+    return klumdray_step(h->line, lent.codes, h->codes, lent.table, h->table, h->side, h->medium,
+                         lent.memory, h->memory, lent.octets, h->octets, lent.room, h->room);
+}
+
+static uint64_t do_call(const struct head *h, struct lent lent)
+{
+    const uint8_t *octets = lent.octets;
+    uint8_t *room = lent.room;
     switch (h->call) {
     case CALL_CHECK_OCTET:
         return klumdray_check_octet(octets, h->octets);
@@ -103,16 +122,25 @@ static uint64_t do_call(const struct head *h, const uint8_t *octets, uint8_t *ro
         return klumdray_routing_write(h->code, h->error_mark, h->extended, h->first_sending,
                                       h->priority, h->source, h->group, h->destination, h->count,
                                       octets, h->octets, room, h->room);
+    case CALL_STEP:
+        return do_step(h, lent);
     default:
         kernel(EXIT, 2, 0, 0);
         return 0;
     }
 }
 
+static size_t table_sent(const struct head *h)
+{
+    return h->table_kept ? 0 : h->table;
+}
+
 static size_t wanted(size_t have)
 {
     const struct head *h = (const struct head *)request;
-    return have < sizeof *h ? sizeof *h : sizeof *h + h->octets + h->room;
+    if (have < sizeof *h)
+        return sizeof *h;
+    return sizeof *h + h->codes + table_sent(h) + h->octets + h->memory + h->room;
 }
 
 static void receive(void)
@@ -136,17 +164,29 @@ static void reply(size_t n)
     }
 }
 
+/* Memory and room are lent where the answer is sent from. */
+static struct lent lend(const struct head *h)
+{
+    uint8_t *codes = request + sizeof *h;
+    uint8_t *sent = codes + h->codes;
+    uint8_t *octets = sent + table_sent(h);
+    uint8_t *memory = answer + sizeof(uint64_t);
+    memcpy(table, sent, table_sent(h));
+    memcpy(memory, octets + h->octets, h->memory + h->room);
+    return (struct lent){.octets = h->null & NULL_OCTETS ? 0 : octets,
+                         .codes = h->null & NULL_CODES ? 0 : codes,
+                         .table = h->null & NULL_TABLE ? 0 : table,
+                         .memory = h->null & NULL_MEMORY ? 0 : memory,
+                         .room = h->null & NULL_ROOM ? 0 : memory + h->memory};
+}
+
 void serve(void)
 {
     for (;;) {
         receive();
         const struct head *h = (const struct head *)request;
-        uint8_t *octets = request + sizeof *h;
-        uint8_t *room = answer + sizeof(uint64_t);
-        memcpy(room, octets + h->octets, h->room);
-        uint64_t number = do_call(h, h->null & NULL_OCTETS ? 0 : octets,
-                                  h->null & NULL_ROOM ? 0 : room);
+        uint64_t number = do_call(h, lend(h));
         memcpy(answer, &number, sizeof number);
-        reply(sizeof number + h->room);
+        reply(sizeof number + h->memory + h->room);
     }
 }

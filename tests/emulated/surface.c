@@ -69,24 +69,64 @@ static void receive_all(uint8_t *octets, size_t n)
     }
 }
 
-static uint64_t hand_on(struct head h, const uint8_t *octets, size_t n, uint8_t *room, size_t m)
+static struct iovec part(const void *octets, size_t n)
 {
-    uint64_t number;
-    static __thread uint8_t answer[sizeof number + MOST_OCTETS];
-    struct iovec parts[] = {{&h, sizeof h}, {(void *)(uintptr_t)octets, n}, {room, m}};
-    if (n > MOST_OCTETS || m > MOST_OCTETS - n)
-        fail("more octets than the library's process takes");
+    return (struct iovec){(void *)(uintptr_t)octets, n};
+}
+
+/* Sends a head and the parts behind it. The answer has n octets behind its number. */
+static const uint8_t *exchange(struct iovec *parts, int count, size_t n)
+{
+    static __thread uint8_t answer[sizeof(uint64_t) + MOST_OCTETS];
+    size_t left = MOST_OCTETS;
+    for (int i = 1; i < count; left -= parts[i++].iov_len)
+        if (parts[i].iov_len > left)
+            fail("more octets than the library's process takes");
     if (to_library < 0)
         start();
+    send_all(parts, count);
+    receive_all(answer, sizeof(uint64_t) + n);
+    return answer;
+}
+
+static uint64_t number_of(const uint8_t *answer)
+{
+    uint64_t number;
+    memcpy(&number, answer, sizeof number);
+    return number;
+}
+
+/* As memcpy, but null pointers do where n is 0. */
+static void copy(uint8_t *to, const uint8_t *from, size_t n)
+{
+    if (n > 0)
+        memcpy(to, from, n);
+}
+
+static uint64_t hand_on(struct head h, const uint8_t *octets, size_t n, uint8_t *room, size_t m)
+{
     h.octets = n;
     h.room = m;
     h.null = (uint16_t)((octets ? 0 : NULL_OCTETS) | (room ? 0 : NULL_ROOM));
-    send_all(parts, 3);
-    receive_all(answer, sizeof number + m);
-    memcpy(&number, answer, sizeof number);
-    if (m > 0)
-        memcpy(room, answer + sizeof number, m);
-    return number;
+    struct iovec parts[] = {part(&h, sizeof h), part(octets, n), part(room, m)};
+    const uint8_t *answer = exchange(parts, 3, m);
+    copy(room, answer + sizeof(uint64_t), m);
+    return number_of(answer);
+}
+
+/* Whether the table is the one sent last; if not, it is now. Sent with each step it would take
+ * most of the time. */
+static uint8_t is_kept(const uint8_t *table, size_t n)
+{
+    static __thread uint8_t last[MOST_TABLE];
+    static __thread size_t last_length = 0;
+    if (n > MOST_TABLE)
+        fail("a larger filter table than the library's process takes");
+    if (n == last_length && (n == 0 || memcmp(table, last, n) == 0))
+        return 1;
+    last_length = n;
+    copy(last, table, n);
+    return 0;
 }
 
 uint8_t klumdray_check_octet(const uint8_t *octets, size_t n)
@@ -158,4 +198,34 @@ uint64_t klumdray_routing_write(uint8_t code, uint8_t error_mark, uint8_t extend
                      .destination = destination,
                      .count = count};
     return hand_on(h, payload, n, room, m);
+}
+
+uint64_t klumdray_step(uint8_t line, const uint8_t *codes, size_t codes_length,
+                       const uint8_t *table, size_t table_length, uint8_t side, uint8_t medium,
+                       uint8_t *memory, size_t memory_length, const uint8_t *octets, size_t length,
+                       uint8_t *room, size_t room_length)
+{
+    struct head h = {.call = CALL_STEP,
+                     .octets = length,
+                     .room = room_length,
+                     .codes = codes_length,
+                     .table = table_length,
+                     .memory = memory_length,
+                     .line = line,
+                     .side = side,
+                     .medium = medium,
+                     .table_kept = is_kept(table, table_length)};
+    h.null = (uint16_t)((octets ? 0 : NULL_OCTETS) | (room ? 0 : NULL_ROOM) |
+                        (codes ? 0 : NULL_CODES) | (table ? 0 : NULL_TABLE) |
+                        (memory ? 0 : NULL_MEMORY));
+    struct iovec parts[] = {part(&h, sizeof h),
+                            part(codes, codes_length),
+                            part(table, h.table_kept ? 0 : table_length),
+                            part(octets, length),
+                            part(memory, memory_length),
+                            part(room, room_length)};
+    const uint8_t *answer = exchange(parts, 6, memory_length + room_length);
+    copy(memory, answer + sizeof(uint64_t), memory_length);
+    copy(room, answer + sizeof(uint64_t) + memory_length, room_length);
+    return number_of(answer);
 }

@@ -8,11 +8,12 @@ use lib.Dec.{eqb}
 use lib.ListN.{length, take, drop}
 use borrow.Author.Tests.{ltb-false}
 use Rattle.cemi.specs.Writing.{messageInRange}
+use Rattle.cemi.specs.declared.CemiAnswer.{CemiAnswer}
 use Rattle.cemi.specs.declared.Codes.the-variants.{IndicationOnly}
 use Rattle.cemi.specs.declared.Message.{Message}
 use Rattle.coupler.specs.Memory.{kept, recalled, sideOf, rememberedOn, rememberedIf, isRepetition}
 use Rattle.coupler.specs.Passing.{hopped}
-use Rattle.coupler.specs.Step.{Setting, settingTests, judgedBy, fromIp, Heard, heardTp1, after, heard, repeats, forwardedMeaning, indication, formOf, putSize, Sent, sentOf, acceptedOutcome, refusedOutcome, PassedOn, outcomeOf, HandedOn, memoryAfter, Did, frame, nothing}
+use Rattle.coupler.specs.Step.{Setting, settingTests, judgedBy, fromIp, Heard, heardTp1, heardIp, readBy, after, heard, repeats, forwardedMeaning, indication, formOf, putSize, Sent, sentOf, acceptedOutcome, refusedOutcome, PassedOn, outcomeOf, HandedOn, memoryAfter, Did, frame, nothing}
 use Rattle.coupler.specs.declared.Memory.{Memory}
 use Rattle.coupler.specs.declared.Outcome.{Outcome}
 use Rattle.coupler.specs.declared.Remembered.{Remembered}
@@ -21,7 +22,7 @@ use Rattle.frame.proofs.Valid.{ranges-of, ranged, most-payload}
 use Rattle.frame.proofs.Writing.{put-iff, wrote-over}
 use Rattle.frame.specs.Order.{Verdict, firstOf, pass, refuse}
 use Rattle.frame.specs.Refusals.{number}
-use Rattle.frame.specs.Valid.{inRange}
+use Rattle.frame.specs.Valid.{inRange, Valid}
 use Rattle.frame.specs.Writing.{Wrote}
 use Rattle.frame.specs.declared.Meaning.{Meaning}
 use Rattle.frame.specs.declared.Refusal.the-variants.{TooFew, NotData, OtherFormat, Escape, LeftOver, WrongCheck, OtherCode, InformationEscape, LongStandard, OtherHeader, OtherService, OtherLength, SmallRoom, OutOfRange, WrongSetting, WrongRecord, LineTwice, NoTable}
@@ -41,7 +42,7 @@ use Rattle.tp1.specs.Reading.{payloadIn, readTp1}
 use Rattle.tp1.specs.declared.Tp1Answer.{Tp1Answer}
 use Rattle.tp1.specs.declared.Tp1Answer.the-variants.{Frame, Refused as Unread}
 use Rattle.tp1.proofs.RoundTrip.{read-laid as tp1-read-laid}
-use Rattle.cemi.specs.declared.CemiAnswer.the-variants.{Frame as Message-is}
+use Rattle.cemi.specs.declared.CemiAnswer.the-variants.{Frame as Message-is, Refused as Message-not}
 use Rattle.cemi.proofs.RoundTrip.{read-laid as cemi-read-laid}
 use Rattle.coupler.specs.declared.Judged.the-variants.{Fine, Refused as NotFine}
 
@@ -53,12 +54,12 @@ hopped-below c h = go (eqb c 7) refl
     go false e = omega arith
 
 -- a forwarded frame keeps what the ranges ask
-forwarded-ranged : (m : Meaning) (k : ℕ) → inRange m k ≡ true → inRange (forwardedMeaning m) k ≡ true
+pub forwarded-ranged : (m : Meaning) (k : ℕ) → inRange m k ≡ true → inRange (forwardedMeaning m) k ≡ true
 forwarded-ranged m k e =
     let r = ranges-of m k e in
     ranged (forwardedMeaning m) k (record { priority = r .priority; count = hopped-below (m .count) (r .count); some = r .some; most = r .most })
 
-indication-ranged : (m : Meaning) (k : ℕ) → inRange m k ≡ true → messageInRange IndicationOnly (indication (forwardedMeaning m)) k ≡ true
+pub indication-ranged : (m : Meaning) (k : ℕ) → inRange m k ≡ true → messageInRange IndicationOnly (indication (forwardedMeaning m)) k ≡ true
 unfolding messageInRange
 indication-ranged m k e = forwarded-ranged m k e
 
@@ -181,3 +182,24 @@ handed-one x y = (x .outcome ∙ sym (y .outcome), x .left ∙ sym (y .left))
 
 pub did-one : {k : Setting} {m : Memory} {s room : List ℕ} {o₁ o₂ : Outcome} {m₁ m₂ : Memory} {r₁ r₂ : List ℕ} → Did k m s room o₁ m₁ r₁ → Did k m s room o₂ m₂ r₂ → (o₁ ≡ o₂) × ((m₁ ≡ m₂) × (r₁ ≡ r₂))
 did-one x y = let e = handed-one (x .handed) (y .handed) in (e .0, (x .memory ∙ sym (y .memory), e .1))
+
+-- a frame that was heard, by whichever medium, has a valid meaning and payload
+pub heard-valid : (k : Setting) (s : List ℕ) (n : ℕ) (m : Meaning) (p : List ℕ) → Octets s → heard k s n ≡ frame m p → Valid m p
+unfolding heard
+heard-valid k s n m p o e = settled (firstOf (settingTests k n)) (fromIp k) e
+  where
+    by-tp1 : (a : Tp1Answer) → readTp1 s ≡ a → heardTp1 a s ≡ frame m p → Valid m p
+    by-tp1 (Frame x) q z = let em : x ≡ m = cc in let ep : payloadIn (Frame x) s ≡ p = cc in subst (λ (y : Meaning). Valid y p) em (subst (Valid x) ep (tp1-read-laid s x o q .valid))
+    by-tp1 (Unread r) q z = let y : _≡_ {A = ℕ} 0 1 = cc in absurd (omega arith)
+
+    by-ip : (a : CemiAnswer) → readRouting s ≡ a → heardIp a s ≡ frame m p → Valid m p
+    by-ip (Message-is x) q z =
+        let em : x .meaning ≡ m = cc in
+        let ep : routedPayload (Message-is x) s ≡ p = cc in
+        subst (λ (y : Meaning). Valid y p) em (subst (Valid (x .meaning)) ep (cemi-read-laid IndicationOnly (drop 6 s) x (octets-drop 6 s o) (read-datagram s x o q .1) .valid .valid))
+    by-ip (Message-not r) q z = let y : _≡_ {A = ℕ} 0 1 = cc in absurd (omega arith)
+
+    settled : (v : Verdict) (b : Bool) → after v (readBy b s) ≡ frame m p → Valid m p
+    settled pass true z = by-ip (readRouting s) refl z
+    settled pass false z = by-tp1 (readTp1 s) refl z
+    settled (refuse r) b z = let y : _≡_ {A = ℕ} 0 1 = cc in absurd (omega arith)

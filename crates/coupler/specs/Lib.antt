@@ -2,3 +2,4 @@ pub mod Settings
 pub mod Passing
 pub mod Memory
 pub mod Step
+pub mod Series

@@ -48,8 +48,8 @@ rememberedIf accepted m side frame = cond accepted (rememberedOn m side frame) m
 -- "An accepted frame marked repeated is a repetition if the remembered frame has the same source, destination and AT."
 unfoldable pub isRepetition : List ℕ → Meaning → Bool
 isRepetition frame m =
-    not (eqb (length frame) 0)
-    && not (m .first)
+    not (m .first)
+    && not (eqb (length frame) 0)
     && eqb (meaningIn frame .source) (m .source)
     && eqb (meaningIn frame .destination) (m .destination)
     && Bool·beq (meaningIn frame .group) (m .group)

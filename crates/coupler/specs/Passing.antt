@@ -11,17 +11,23 @@ unfoldable pub isOwn : ℕ → Bool → ℕ → Bool
 isOwn line group destination = not group && eqb destination (line * 256)
 
 -- "forward if bit g mod 8 of octet g div 8 in the 8,192-octet filter table is one"
+abbrev pub listedOctet : ℕ → ℕ
+listedOctet g = g / 8
+
+abbrev pub listedBit : ℕ → ℕ
+listedBit g = g % 8
+
 unfoldable pub isListed : List ℕ → ℕ → Bool
-isListed table g = eqb (octetAt table (g / 8) / 2 ^ (g % 8) % 2) 1
+isListed table g = eqb (octetAt table (listedOctet g) / 2 ^ listedBit g % 2) 1
 
 -- "where n mod 16 is not 0, down if the destination's high octet is n ..; otherwise down if the destination's area is the coupler's area"
 unfoldable pub isBelow : ℕ → ℕ → Bool
 isBelow line destination = cond (eqb (line % 16) 0) (eqb (destination / 4096) (line / 16)) (eqb (destination / 256) line)
 
--- what code 1 says: for groups the table, for individual addresses "down if .. is .., up if it isn't"
+-- what code 1 says: for groups the table, which broadcast never asks; for individual addresses "down if .. is .., up if it isn't"
 unfoldable pub isRuled : ℕ → List ℕ → ℕ → Bool → ℕ → Bool
 isRuled line table direction group destination =
-    cond group (isListed table destination) (cond (eqb direction 0) (isBelow line destination) (not (isBelow line destination)))
+    cond group (not (eqb destination 0) && isListed table destination) (cond (eqb direction 0) (isBelow line destination) (not (isBelow line destination)))
 
 -- "Code 0 is closed, 2 open." "A frame .. to the coupler's own address is .. never forwarded, under any code."
 unfoldable pub mayPass : ℕ → List (List ℕ) → List ℕ → ℕ → Bool → ℕ → Bool

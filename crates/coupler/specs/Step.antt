@@ -102,8 +102,11 @@ abbrev pub isForwarded : Setting → Bool → Meaning → Bool
 isForwarded k repetition m = isAllowed k m && not repetition
 
 -- "A TP1 frame gets CCh exactly if it is for the coupler itself or, repetition or not, its address, codes and count allow forwarding"
-unfoldable pub acknowledgementOf : Setting → Meaning → Acknowledgement
-acknowledgementOf k m = cond (not (fromIp k) && (isOwn (k .line) (m .group) (m .destination) || isAllowed k m)) Acknowledged Silence
+unfoldable pub acknowledgementBy : Bool → Bool → Bool → Acknowledgement
+acknowledgementBy ip own allowed = cond (not ip && (own || allowed)) Acknowledged Silence
+
+abbrev pub acknowledgementOf : Setting → Meaning → Acknowledgement
+acknowledgementOf k m = acknowledgementBy (fromIp k) (isOwn (k .line) (m .group) (m .destination)) (isAllowed k m)
 
 -- "A forwarded frame keeps format, priority, addresses and payload; its repeat flag says first sending; its count follows the rule"
 abbrev pub forwardedMeaning : Meaning → Meaning

@@ -9,7 +9,7 @@ ghost use Rattle.frame.specs.Valid.{inRange};
 ghost use Rattle.tp1.specs.Reading.{readTp1};
 ghost use Rattle.routing.specs.Reading.{readRouting};
 ghost use Rattle.coupler.specs.Memory.{isRepetition};
-ghost use Rattle.coupler.specs.Step.{settingOf, settingTests, judgedBy, fromIp, heardTp1, heardIp, isAllowed, acknowledgementOf, forwardedMeaning, formOf, putSize, Sent, refusedOutcome, PassedOn, HandedOn};
+ghost use Rattle.coupler.specs.Step.{settingOf, settingTests, judgedBy, fromIp, heardTp1, heardIp, isAllowed, acknowledgementBy, forwardedMeaning, formOf, putSize, Sent, refusedOutcome, PassedOn, HandedOn};
 use crate::Acknowledgement;
 use crate::Judged;
 use crate::Outcome;
@@ -78,19 +78,9 @@ fn is_allowed(
 }
 
 // Worked out from the fields as they stand, apart from acceptance and repetition.
-fn acknowledgement(
-    line: u8,
-    codes: [[u8; 4]; 2],
-    table: &[u8],
-    side: u8,
-    medium: u8,
-    meaning: Meaning,
-) -> Acknowledgement
-    ensures { λ r. ⌜ r ≡ acknowledgementOf (settingOf line codes (now (table .entry)) side medium) meaning ⌝ }
+fn acknowledgement(ip: bool, own: bool, allowed: bool) -> Acknowledgement
+    ensures { λ r. ⌜ r ≡ acknowledgementBy ip own allowed ⌝ }
 {
-    let own = crate::passing::is_own(line, meaning.group, meaning.destination);
-    let allowed = is_allowed(line, codes, table, side, medium, meaning);
-    let ip = (side == 0) & (medium == 1);
     let due = !ip & (own | allowed);
     if due {
         Acknowledgement::Acknowledged
@@ -154,9 +144,10 @@ fn pass_on(
     requires { ⌜ (inRange meaning (length (now payload)) ≡ true) × (272 ≤ length (now room)) ⌝ }
     ensures { λ r. ⌜ PassedOn (settingOf line codes (now (table .entry)) side medium) repetition meaning (now (payload .entry)) (now (room .entry)) r (now (room .exit)) ⌝ }
 {
-    let acknowledgement = acknowledgement(line, codes, table, side, medium, meaning);
     let own = crate::passing::is_own(line, meaning.group, meaning.destination);
     let allowed = is_allowed(line, codes, table, side, medium, meaning);
+    let from_ip = (side == 0) & (medium == 1);
+    let acknowledgement = acknowledgement(from_ip, own, allowed);
     let forwards = allowed & !repetition;
     if forwards {
         let ip = (side == 1) & (medium == 1);
@@ -180,10 +171,12 @@ fn pass_on(
 fn is_repetition(remembered: &[u8], meaning: Meaning) -> bool
     ensures { λ r. ⌜ r ≡ isRepetition (now (remembered .entry)) meaning ⌝ }
 {
+    if meaning.first {
+        return false;
+    }
     let before = tp1::meaning_in(remembered);
     let none = remembered.len() == 0;
     !none
-        & !meaning.first
         & (before.source == meaning.source)
         & (before.destination == meaning.destination)
         & (before.group == meaning.group)

@@ -45,7 +45,7 @@ pub(crate) fn is_ruled(line: u8, table: &[u8], direction: u8, group: bool, desti
     ensures { λ r. ⌜ r ≡ isRuled line (now (table .entry)) direction group destination ⌝ }
 {
     if group {
-        return is_listed(table, destination);
+        return (destination != 0) & is_listed(table, destination);
     }
     let below = is_below(line, destination);
     if direction == 0 { below } else { !below }

@@ -8,10 +8,9 @@ pub(crate) fn code_in(codes: [[u8; 4]; 2], direction: u8, class: usize) -> u8
     requires { ⌜ class < 4 ⌝ }
     ensures { λ r. ⌜ r ≡ codeIn codes direction class ⌝ }
 {
-    if direction == 0 {
-        codes[0][class]
-    } else if direction == 1 {
-        codes[1][class]
+    if direction < 2 {
+        let row = direction as usize;
+        codes[row][class]
     } else {
         0
     }

@@ -57,7 +57,7 @@ acknowledgementNumber Acknowledged = 0xCC
 unfoldable pub outcomeNumber : Outcome → ℕ
 outcomeNumber o = o .number + acknowledgementNumber (o .acknowledgement) * 2 ^ 8 + weigh (o .own) 1 * 2 ^ 16 + o .forwarded % 65536 * 2 ^ 32
 
--- "a block of another size is 14": before any other refusal
+-- codes or a block of another size are refused by 14, before any other refusal (docs/DECISIONS.md)
 abbrev pub lentRight : List ℕ → List ℕ → Bool
 lentRight codes block = eqb (length codes) 8 && eqb (length block) 530
 

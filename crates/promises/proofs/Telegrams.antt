@@ -1,10 +1,18 @@
 -- Every case of the list holds, by computation from the definitions.
 use mathlib.Core.Path.{refl}
 use Rattle.octets.specs.Check.{checkOctet}
-use Rattle.frame.specs.Fields.{isControl, fieldsMeaning}
+use Rattle.frame.specs.Fields.{isControl, controlOf, ctrleOf, fieldsMeaning}
+use Rattle.tp1.specs.Layout.{head, sealed, tp1Octets}
 use Rattle.tp1.specs.Reading.{isExtended, headSize, isOtherFormat, isEscape, frameSize, isChecked, meaningIn, readFrom}
+use Rattle.cemi.specs.Reading.{body, isOtherFormat as isOtherBody, isEscape as isEscapeBody, isLongStandard, bodySize, messageIn}
+use Rattle.routing.specs.Header.{isOtherHeader, isOtherService, isOtherLength}
+use Rattle.routing.specs.Reading.{readRouting}
+use Rattle.coupler.specs.Settings.{classOf, isCode, isRow, areCodes, asksTable, tableFits}
+use Rattle.coupler.specs.Passing.{isOwn, isListed, isBelow, isRuled, mayPass}
+use Rattle.coupler.specs.Memory.{isRepetition}
+use Rattle.coupler.specs.Step.{heard, acknowledgementBy, formOf}
 use Rattle.promises.specs.Telegrams.{Every, cases}
 
 pub every : Every cases
-unfolding checkOctet isControl fieldsMeaning isExtended headSize isOtherFormat isEscape frameSize isChecked meaningIn readFrom
-every = (refl, (refl, (refl, (refl, (refl, (refl, tt))))))
+unfolding checkOctet isControl controlOf ctrleOf fieldsMeaning head sealed tp1Octets isExtended headSize isOtherFormat isEscape frameSize isChecked meaningIn readFrom body isOtherBody isEscapeBody isLongStandard bodySize messageIn isOtherHeader isOtherService isOtherLength readRouting classOf isCode isRow areCodes asksTable tableFits isOwn isListed isBelow isRuled mayPass isRepetition heard acknowledgementBy formOf
+every = (refl, (refl, (refl, (refl, (refl, (refl, ((refl, refl), ((refl, refl), ((refl, refl), ((refl, refl), ((refl, refl), ((refl, refl), tt))))))))))))

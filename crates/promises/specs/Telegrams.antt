@@ -5,6 +5,10 @@ use mathlib.Core.List.{List, [], _∷_}
 use mathlib.Core.Bool.{true, false}
 use Rattle.frame.specs.declared.Meaning.{Meaning}
 use Rattle.frame.specs.Refusals.{number}
+use Rattle.coupler.specs.declared.Acknowledgement.{Acknowledgement}
+use Rattle.coupler.specs.declared.Acknowledgement.the-variants.{Silence, Acknowledged}
+use Rattle.coupler.specs.Passing.{listedOctet, listedBit}
+use Rattle.coupler.specs.Step.{Setting, settingOf, Heard, heard, outcomeOf, sent}
 use Rattle.tp1.specs.declared.Tp1Answer.{Tp1Answer}
 use Rattle.tp1.specs.declared.Tp1Answer.the-variants.{Frame, Refused}
 use Rattle.tp1.specs.Reading.{readTp1, payloadIn}
@@ -18,13 +22,32 @@ abbrev pub said : Tp1Answer → List ℕ → Said
 said (Frame m) s = accepted m (payloadIn (Frame m) s)
 said (Refused r) s = refused (number r)
 
+-- what a coupler that remembers nothing does with octets: acknowledgement, and the octets that it sends
+pub data Does : Type 0 where
+  sends : Acknowledgement → List ℕ → Does
+
 infix 20 tp1_is_
+infix 20 _hears_and_
+infix 20 bit_is_of_
 pub data Case : Type 0 where
   -- these octets, read as a TP1 frame
   tp1_is_ : List ℕ → Said → Case
+  -- this coupler, given these octets
+  _hears_and_ : Setting → List ℕ → Does → Case
+  -- this group's bit, and the octet of the filter table
+  bit_is_of_ : ℕ → ℕ → ℕ → Case
+
+abbrev pub does : Setting → Heard → Does
+does k h = sends (outcomeOf k [] h .acknowledgement) (sent k [] h)
+
+-- an accepted frame, and what becomes of it
+abbrev pub Handles : Setting → Heard → Does → Type 0
+Handles k h d = (outcomeOf k [] h .number ≡ 0) × (does k h ≡ d)
 
 abbrev pub Holds : Case → Type 0
 Holds (tp1 s is a) = said (readTp1 s) s ≡ a
+Holds (k hears s and d) = Handles k (heard k s 272) d
+Holds (bit g is b of o) = (listedBit g ≡ b) × (listedOctet g ≡ o)
 
 abbrev pub Every : List Case → Type 0
 Every [] = Unit {0}
@@ -57,5 +80,50 @@ P5 = tp1 0x34 ∷ 0xE1 ∷ 0xAF ∷ 0xFE ∷ 0x00 ∷ 0x00 ∷ 0x00 ∷ [] is re
 abbrev pub P6 : Case
 P6 = tp1 0x34 ∷ 0x60 ∷ 0xAF ∷ 0xFE ∷ 0xFF ∷ 0x00 ∷ 0xFF ∷ [] is refused 4
 
+-- couplers with every code closed, or open for one class of addresses, in both directions
+abbrev pub closedRow : List ℕ
+closedRow = 0 ∷ 0 ∷ 0 ∷ 0 ∷ []
+
+abbrev pub groupsOpen : List ℕ
+groupsOpen = 0 ∷ 0 ∷ 2 ∷ 2 ∷ []
+
+abbrev pub broadcastOpen : List ℕ
+broadcastOpen = 0 ∷ 2 ∷ 0 ∷ 0 ∷ []
+
+-- "from IP, groups open"
+abbrev pub fromIpOpen : Setting
+fromIpOpen = settingOf 0x47 (groupsOpen ∷ groupsOpen ∷ []) [] 0 1
+
+-- "06 10 05 30 00 14 29 00 BC C0 00 00 12 34 04 00 80 56 78 9A from IP, groups open: P1's octets on TP1."
+abbrev pub P7 : Case
+P7 =
+    fromIpOpen hears 0x06 ∷ 0x10 ∷ 0x05 ∷ 0x30 ∷ 0x00 ∷ 0x14 ∷ 0x29 ∷ 0x00 ∷ 0xBC ∷ 0xC0 ∷ 0x00 ∷ 0x00 ∷ 0x12 ∷ 0x34 ∷ 0x04 ∷ 0x00 ∷ 0x80 ∷ 0x56 ∷ 0x78 ∷ 0x9A ∷ []
+    and sends Silence (0xBC ∷ 0x00 ∷ 0x00 ∷ 0x12 ∷ 0x34 ∷ 0xB4 ∷ 0x00 ∷ 0x80 ∷ 0x56 ∷ 0x78 ∷ 0x9A ∷ 0xE5 ∷ [])
+
+-- "with 80 in place of C0: nothing forwarded"
+abbrev pub P8 : Case
+P8 =
+    fromIpOpen hears 0x06 ∷ 0x10 ∷ 0x05 ∷ 0x30 ∷ 0x00 ∷ 0x14 ∷ 0x29 ∷ 0x00 ∷ 0xBC ∷ 0x80 ∷ 0x00 ∷ 0x00 ∷ 0x12 ∷ 0x34 ∷ 0x04 ∷ 0x00 ∷ 0x80 ∷ 0x56 ∷ 0x78 ∷ 0x9A ∷ []
+    and sends Silence []
+
+-- "with F0: BC 00 00 12 34 F4 00 80 56 78 9A A5"
+abbrev pub P9 : Case
+P9 =
+    fromIpOpen hears 0x06 ∷ 0x10 ∷ 0x05 ∷ 0x30 ∷ 0x00 ∷ 0x14 ∷ 0x29 ∷ 0x00 ∷ 0xBC ∷ 0xF0 ∷ 0x00 ∷ 0x00 ∷ 0x12 ∷ 0x34 ∷ 0x04 ∷ 0x00 ∷ 0x80 ∷ 0x56 ∷ 0x78 ∷ 0x9A ∷ []
+    and sends Silence (0xBC ∷ 0x00 ∷ 0x00 ∷ 0x12 ∷ 0x34 ∷ 0xF4 ∷ 0x00 ∷ 0x80 ∷ 0x56 ∷ 0x78 ∷ 0x9A ∷ 0xA5 ∷ [])
+
+-- "coupler FFh, broadcast open, from main B0 AF FE 00 00 E1 01 00 FE: CCh and B0 AF FE 00 00 D1 01 00 CE"
+abbrev pub P10 : Case
+P10 =
+    settingOf 0xFF (broadcastOpen ∷ closedRow ∷ []) [] 0 0 hears 0xB0 ∷ 0xAF ∷ 0xFE ∷ 0x00 ∷ 0x00 ∷ 0xE1 ∷ 0x01 ∷ 0x00 ∷ 0xFE ∷ []
+    and sends Acknowledged (0xB0 ∷ 0xAF ∷ 0xFE ∷ 0x00 ∷ 0x00 ∷ 0xD1 ∷ 0x01 ∷ 0x00 ∷ 0xCE ∷ [])
+
+-- "group 6FFFh is bit 7 of octet 3,583; 7000h is bit 0 of octet 3,584"
+abbrev pub P11a : Case
+P11a = bit 0x6FFF is 7 of 3583
+
+abbrev pub P11b : Case
+P11b = bit 0x7000 is 0 of 3584
+
 abbrev pub cases : List Case
-cases = P1 ∷ P2 ∷ P3 ∷ P4 ∷ P5 ∷ P6 ∷ []
+cases = P1 ∷ P2 ∷ P3 ∷ P4 ∷ P5 ∷ P6 ∷ P7 ∷ P8 ∷ P9 ∷ P10 ∷ P11a ∷ P11b ∷ []

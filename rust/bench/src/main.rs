@@ -1,6 +1,7 @@
 //! Times of the proved library beside the reference: same inputs, same run, as ratios.
 
 mod cemi;
+mod coupler;
 mod inputs;
 mod measure;
 mod routing;
@@ -16,13 +17,21 @@ fn main() {
     println!(
         "answer as each gives it: the library one number, the reference a frame; a read and its"
     );
-    println!("parts goes through the bindings.");
-    if !cfg!(target_arch = "x86_64") {
-        println!("NOT A MEASUREMENT: the library's code is for x86-64, and this machine is not.");
+    println!(
+        "parts goes through the bindings. From one medium to another is a coupler step with a"
+    );
+    println!("filter table; its size is the frame's on TP1.");
+    match klumdray::LINKED {
+        "staticlib" => {}
+        "native" => {
+            println!("This machine is not x86-64: the library's own LLVM module was compiled for it.");
+        }
+        _ => println!("NOT A MEASUREMENT: the library's code is for x86-64 and runs emulated here."),
     }
     println!();
     measure::print_heading();
     tp1::rows();
     cemi::rows();
     routing::rows();
+    coupler::rows();
 }

@@ -64,3 +64,32 @@ pub(crate) fn written(answer: u64) -> Result<usize, Refusal> {
         number => Err(Refusal::from_number(number)),
     }
 }
+
+/// A step's answer that is not a refusal.
+#[derive(Clone, Copy)]
+pub(crate) struct Step(u64);
+
+impl Step {
+    #[inline]
+    pub(crate) fn accepted(answer: u64) -> Result<Step, Refusal> {
+        match answer as u8 {
+            0 => Ok(Step(answer)),
+            number => Err(Refusal::from_number(number)),
+        }
+    }
+
+    #[inline]
+    pub(crate) fn acknowledged(self) -> bool {
+        (self.0 >> 8) as u8 == 0xcc
+    }
+
+    #[inline]
+    pub(crate) fn own(self) -> bool {
+        self.0 >> 16 & 1 == 1
+    }
+
+    #[inline]
+    pub(crate) fn forwarded(self) -> usize {
+        (self.0 >> 32) as usize
+    }
+}

@@ -1,7 +1,8 @@
 //! Safe calls over the proved library `libklumdray.a`.
 //!
 //! Each call gives what document 01 says, for every input: a frame's meaning with its payload as
-//! a part of the caller's octets, or a [`Refusal`] with its number in that paper.
+//! a part of the caller's octets, what a coupler does with a frame, or a [`Refusal`] with its
+//! number in that paper.
 //!
 //! ```
 //! let octets = [0xbc, 0, 0, 0x12, 0x34, 0xb4, 0x00, 0x80, 0x56, 0x78, 0x9a, 0xe5];
@@ -15,6 +16,7 @@
 
 mod answer;
 pub mod cemi;
+pub mod coupler;
 mod meaning;
 #[allow(unsafe_code)]
 pub mod raw;
@@ -24,6 +26,9 @@ pub mod tp1;
 
 pub use meaning::Meaning;
 pub use refusal::Refusal;
+
+/// Which build of the proved library is linked: `staticlib` (x86-64), `emulated` or `native`.
+pub const LINKED: &str = env!("KLUMDRAY_LINKED");
 
 /// The check octet: the ones' complement of the exclusive or of all octets given.
 ///

@@ -22,6 +22,21 @@ pub struct Numbers {
     pub count: u8,
 }
 
+/// The numbers and octets that set a coupler for one step; one outside its range is refused.
+#[derive(Clone, Copy, Debug, PartialEq, Eq)]
+pub struct Setting<'a> {
+    /// The coupler's own line, 01h to FFh.
+    pub line: u8,
+    /// Four codes for main to sub, then four for sub to main.
+    pub codes: &'a [u8],
+    /// The filter table: 8,192 octets, or none where no group code is 1.
+    pub table: &'a [u8],
+    /// The receiving side: 0 main, 1 sub.
+    pub side: u8,
+    /// The medium of the main side: 0 TP1, 1 IP.
+    pub medium: u8,
+}
+
 extern "C" {
     fn klumdray_check_octet(octets: *const u8, n: usize) -> u8;
     fn klumdray_tp1_read(octets: *const u8, n: usize) -> u64;
@@ -69,6 +84,21 @@ extern "C" {
         n: usize,
         room: *mut u8,
         m: usize,
+    ) -> u64;
+    fn klumdray_step(
+        line: u8,
+        codes: *const u8,
+        codes_length: usize,
+        table: *const u8,
+        table_length: usize,
+        side: u8,
+        medium: u8,
+        memory: *mut u8,
+        memory_length: usize,
+        octets: *const u8,
+        length: usize,
+        room: *mut u8,
+        room_length: usize,
     ) -> u64;
 }
 
@@ -221,6 +251,46 @@ pub fn routing_write(
             numbers.count,
             payload.as_ptr(),
             payload.len(),
+            room.as_mut_ptr(),
+            room.len(),
+        )
+    }
+}
+
+/// A step's answer: bits 0 to 7 the number, bits 8 to 15 the acknowledgement or 0, bit 16 for the
+/// coupler itself, bits 32 to 63 the octets forwarded. The memory is a block of 530 octets, all
+/// zero at the start.
+///
+/// ```
+/// let setting = klumdray::raw::Setting {
+///     line: 0xff, codes: &[0, 2, 0, 0, 0, 2, 0, 0], table: &[], side: 0, medium: 0,
+/// };
+/// let octets = [0xb0, 0xaf, 0xfe, 0x00, 0x00, 0xe1, 0x01, 0x00, 0xfe];
+/// let (mut memory, mut room) = ([0; 530], [0; 272]);
+/// let answer = klumdray::raw::step(&setting, &mut memory, &octets, &mut room);
+/// assert_eq!(answer, 9 << 32 | 0xcc << 8);
+/// assert_eq!(memory[..11], [0, 9, 0xb0, 0xaf, 0xfe, 0x00, 0x00, 0xe1, 0x01, 0x00, 0xfe]);
+///
+/// assert_eq!(klumdray::raw::step(&setting, &mut [], &octets, &mut room), 14);
+/// assert_eq!(klumdray::raw::step(&setting, &mut memory, &octets, &mut room[1..]), 13);
+/// ```
+#[inline]
+pub fn step(setting: &Setting<'_>, memory: &mut [u8], octets: &[u8], room: &mut [u8]) -> u64 {
+    // SAFETY: the library reads codes, table and octets and writes memory and room within the
+    // lengths lent, which Rust's borrows keep apart, and keeps none of them.
+    unsafe {
+        klumdray_step(
+            setting.line,
+            setting.codes.as_ptr(),
+            setting.codes.len(),
+            setting.table.as_ptr(),
+            setting.table.len(),
+            setting.side,
+            setting.medium,
+            memory.as_mut_ptr(),
+            memory.len(),
+            octets.as_ptr(),
+            octets.len(),
             room.as_mut_ptr(),
             room.len(),
         )

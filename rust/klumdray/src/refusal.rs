@@ -41,6 +41,10 @@ impl Refusal {
     pub const ROOM: Refusal = Refusal(13);
     /// A number given by the caller is outside its range.
     pub const RANGE: Refusal = Refusal(14);
+    /// Own line 00h, or a setting code not allowed.
+    pub const SETTING: Refusal = Refusal(15);
+    /// Filter table missing or of wrong size.
+    pub const TABLE: Refusal = Refusal(18);
 
     #[inline]
     pub(crate) fn from_number(number: u8) -> Refusal {
@@ -70,6 +74,8 @@ impl Refusal {
             Refusal::TOTAL_LENGTH => "total length differs from the datagram's",
             Refusal::ROOM => "lent room too small",
             Refusal::RANGE => "a number given by the caller is outside its range",
+            Refusal::SETTING => "own line 00h, or a setting code not allowed",
+            Refusal::TABLE => "filter table missing or of wrong size",
             _ => "not a number of these calls",
         }
     }

@@ -1,10 +1,11 @@
-//! An independent reading of document 01, "Frame layouts" and "Refusal numbers".
+//! An independent reading of document 01, "Frame layouts", "Refusal numbers" and "The coupler".
 //!
 //! It is written from that paper alone and shares nothing with the proved code: the proved
 //! library is compared with it, input by input. A refusal is its number in the paper's table.
 #![forbid(unsafe_code)]
 
 pub mod cemi;
+pub mod coupler;
 pub mod refusal;
 pub mod routing;
 pub mod tp1;

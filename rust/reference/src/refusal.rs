@@ -1,4 +1,4 @@
-//! The table "Refusal numbers" of document 01, as far as frames are concerned.
+//! The table "Refusal numbers" of document 01, as far as frames and couplers are concerned.
 
 /// Fewer octets than the frame needs.
 pub const TOO_FEW: u8 = 1;
@@ -28,3 +28,7 @@ pub const TOTAL_LENGTH: u8 = 12;
 pub const ROOM: u8 = 13;
 /// A number given by the caller is outside its range.
 pub const RANGE: u8 = 14;
+/// Own line 00h, or a setting code not allowed.
+pub const SETTING: u8 = 15;
+/// Filter table missing or of wrong size.
+pub const TABLE: u8 = 18;

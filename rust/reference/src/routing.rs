@@ -2,7 +2,7 @@
 
 use crate::cemi::{self, Frame};
 use crate::refusal::{HEADER, MESSAGE_CODE, RANGE, SERVICE, TOO_FEW, TOTAL_LENGTH};
-use crate::{front, Given};
+use crate::{front, Given, Meaning};
 
 const INDICATION: u8 = 0x29;
 const HEADER_SIZE: usize = 6;
@@ -39,19 +39,27 @@ pub fn write(
     if code != INDICATION || error_mark != 0 {
         return Err(RANGE);
     }
-    let meaning = given.meaning(payload)?;
+    write_meaning(&given.meaning(payload)?, payload, room)
+}
+
+/// Writes a datagram whose payload has a length of its format.
+pub(crate) fn write_meaning(
+    meaning: &Meaning,
+    payload: &[u8],
+    room: &mut [u8],
+) -> Result<usize, u8> {
     let size = HEADER_SIZE + cemi::HEAD_SIZE + payload.len();
     let (header, message) = front(room, size)?.split_at_mut(HEADER_SIZE);
     let [t1, t0] = (size as u16).to_be_bytes();
     header.copy_from_slice(&[0x06, 0x10, 0x05, 0x30, t1, t0]);
-    cemi::lay(code, false, &meaning, payload, message);
+    cemi::lay(INDICATION, false, meaning, payload, message);
     Ok(size)
 }
 
 #[cfg(test)]
 mod tests {
     use super::*;
-    use crate::{Format, Meaning};
+    use crate::Format;
 
     const P7: [u8; 20] = [
         0x06, 0x10, 0x05, 0x30, 0x00, 0x14, 0x29, 0x00, 0xbc, 0xc0, 0x00, 0x00, 0x12, 0x34, 0x04,

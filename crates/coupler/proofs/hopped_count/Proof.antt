@@ -1,3 +1,4 @@
+-- Each arm settles the count; below 1 the definition stops at 0 too.
 use native.Mathlib.Omega.{arith}
 use borrow.Author.Needs.{needs}
 use borrow.Author.Tests.{eq-eqb, ne-eqb}

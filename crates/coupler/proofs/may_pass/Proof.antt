@@ -1,3 +1,4 @@
+-- The definition's four parts, as the calls ensure them.
 use borrow.Author.Needs.{needs}
 use Rattle.coupler.specs.Passing.{mayPass}
 use Rattle.coupler.proofs.may_pass.Statement.{statement}

@@ -1,3 +1,4 @@
+-- Both sides, as the calls ensure them.
 use borrow.Author.Needs.{needs}
 use Rattle.coupler.proofs.nothing_remembered.Statement.{statement}
 use Rattle.coupler.proofs.nothing_remembered.Tie as tie

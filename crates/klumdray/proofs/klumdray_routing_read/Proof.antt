@@ -1,3 +1,4 @@
+-- The inner answer and the length of the part that was handed out, as a number.
 use borrow.Author.Needs.{needs}
 use Rattle.klumdray.proofs.klumdray_routing_read.Statement.{statement}
 use Rattle.klumdray.proofs.klumdray_routing_read.Tie as tie

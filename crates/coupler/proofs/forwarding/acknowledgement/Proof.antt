@@ -1,23 +1,21 @@
-use borrow.Author.Needs.{needs}
-use Rattle.coupler.specs.Step.{acknowledgementOf}
+-- Each arm settles the definition's test.
+use Rattle.coupler.specs.Step.{acknowledgementBy}
 use Rattle.coupler.proofs.forwarding.acknowledgement.Statement.{statement}
 use Rattle.coupler.proofs.forwarding.acknowledgement.Tie as tie
 
 returns : tie.Need-returns
-unfolding acknowledgementOf
+unfolding acknowledgementBy
 returns c =
-    rw (← c .before .before .is-own .ensures, ← c .before .is-allowed .ensures, c .if1 .taken)
+    rw (c .if1 .taken)
 
 returns-2 : tie.Need-returns-2
-unfolding acknowledgementOf
+unfolding acknowledgementBy
 returns-2 c =
-    rw (← c .before .before .is-own .ensures, ← c .before .is-allowed .ensures, c .if1 .left)
+    rw (c .if1 .left)
 
 pub acknowledgement-spec : {M : Type 1} → statement M
 acknowledgement-spec =
     tie.close
     (tie.spec
-    (λ c κs. search needs)
-    (λ c κs. search needs)
     returns
     returns-2)

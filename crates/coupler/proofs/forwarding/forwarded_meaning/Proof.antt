@@ -1,3 +1,4 @@
+-- The count by the hop rule, as the call ensures it.
 use borrow.Author.Needs.{needs}
 use Rattle.coupler.proofs.forwarding.forwarded_meaning.Statement.{statement}
 use Rattle.coupler.proofs.forwarding.forwarded_meaning.Tie as tie

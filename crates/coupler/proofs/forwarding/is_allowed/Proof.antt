@@ -1,3 +1,4 @@
+-- The address and the codes, as `may_pass` ensures them, and the count.
 use borrow.Author.Needs.{needs}
 use Rattle.coupler.proofs.forwarding.is_allowed.Statement.{statement}
 use Rattle.coupler.proofs.forwarding.is_allowed.Tie as tie

@@ -7,13 +7,13 @@ use Rattle.coupler.proofs.forwarding.pass_on.Tie as tie
 
 returns : tie.Need-returns
 returns c =
-    let f = ap (λ (b : Bool). b && not (c .before .before .before .before .before .before .before .before .before .before .before .args .repetition)) (sym (c .before .before .before .before .before .is-allowed .ensures)) ∙ c .before .before .before .before .if1 .taken in
-    record { outcome = rw (c .before .before .before .before .before .before .before .acknowledgement .ensures, c .before .before .before .before .before .before .is-own .ensures, f, c .before .before .forward .ensures .count); left = rw f (c .before .before .forward .ensures .left) }
+    let f = ap (λ (b : Bool). b && not (c .before .before .before .before .before .before .before .before .before .before .before .args .repetition)) (sym (c .before .before .before .before .before .before .is-allowed .ensures)) ∙ c .before .before .before .before .if1 .taken in
+    record { outcome = rw (c .before .before .before .before .before .acknowledgement .ensures, c .before .before .before .before .before .before .before .is-own .ensures, c .before .before .before .before .before .before .is-allowed .ensures, f, c .before .before .forward .ensures .count); left = rw f (c .before .before .forward .ensures .left) }
 
 returns-2 : tie.Need-returns-2
 returns-2 c =
-    let f = ap (λ (b : Bool). b && not (c .before .before .before .before .before .before .before .args .repetition)) (sym (c .before .is-allowed .ensures)) ∙ c .if1 .left in
-    record { outcome = rw (c .before .before .before .acknowledgement .ensures, c .before .before .is-own .ensures, f); left = rw f refl }
+    let f = ap (λ (b : Bool). b && not (c .before .before .before .before .before .before .before .args .repetition)) (sym (c .before .before .is-allowed .ensures)) ∙ c .if1 .left in
+    record { outcome = rw (c .before .acknowledgement .ensures, c .before .before .before .is-own .ensures, c .before .before .is-allowed .ensures, f); left = rw f refl }
 
 pub pass-on-spec : {M : Type 1} → statement M
 pass-on-spec =

@@ -1,3 +1,4 @@
+-- The refusal's number, as the call ensures it.
 use borrow.Author.Needs.{needs}
 use Rattle.coupler.proofs.forwarding.refused.Statement.{statement}
 use Rattle.coupler.proofs.forwarding.refused.Tie as tie

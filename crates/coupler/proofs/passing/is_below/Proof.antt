@@ -1,3 +1,4 @@
+-- Each arm settles whether the line is an area's.
 use borrow.Author.Needs.{needs}
 use borrow.Author.Tests.{eq-eqb, ne-eqb}
 use Rattle.coupler.specs.Passing.{isBelow}

@@ -1,3 +1,4 @@
+-- The octet of the table, as `octet` hands it out; a shift is a division.
 use borrow.Author.Needs.{needs}
 use Rattle.coupler.specs.Passing.{isListed}
 use Rattle.coupler.proofs.passing.is_listed.Statement.{statement}

@@ -1,3 +1,4 @@
+-- The definition's two tests, in its order.
 use mathlib.Core.Path.{refl}
 use borrow.Author.Needs.{needs}
 use Rattle.coupler.specs.Passing.{isOwn}

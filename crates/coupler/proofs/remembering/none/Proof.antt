@@ -1,3 +1,4 @@
+-- 263 zeros, which the definition keeps under a name.
 use mathlib.Core.Path.{refl}
 use Rattle.coupler.specs.Memory.{zeros}
 use Rattle.coupler.proofs.remembering.none.Statement.{statement}

@@ -1,3 +1,4 @@
+-- `lay` puts the frame over the octets that were there.
 use borrow.Author.Needs.{needs}
 use Rattle.coupler.specs.Memory.{remembering}
 use Rattle.coupler.proofs.remembering.remember.Statement.{statement}

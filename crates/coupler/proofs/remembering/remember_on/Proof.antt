@@ -1,3 +1,4 @@
+-- Each arm settles the side.
 use borrow.Author.Needs.{needs}
 use borrow.Author.Tests.{eq-eqb, ne-eqb}
 use Rattle.coupler.specs.Memory.{rememberedOn}

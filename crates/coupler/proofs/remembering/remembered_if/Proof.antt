@@ -1,3 +1,4 @@
+-- Each arm settles whether the frame was accepted.
 use borrow.Author.Needs.{needs}
 use Rattle.coupler.specs.Memory.{rememberedIf}
 use Rattle.coupler.proofs.remembering.remembered_if.Statement.{statement}

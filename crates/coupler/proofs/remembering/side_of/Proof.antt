@@ -1,3 +1,4 @@
+-- Each arm settles the side.
 use borrow.Author.Tests.{eq-eqb, ne-eqb}
 use Rattle.coupler.proofs.remembering.side_of.Statement.{statement}
 use Rattle.coupler.proofs.remembering.side_of.Tie as tie

@@ -1,3 +1,4 @@
+-- Both rows, as the calls ensure them.
 use borrow.Author.Needs.{needs}
 use Rattle.coupler.specs.Settings.{areCodes}
 use Rattle.coupler.proofs.settings.are_codes.Statement.{statement}

@@ -8,19 +8,11 @@ use borrow.Author.Needs.{needs}
 use Rattle.coupler.proofs.settings.code_in.Statement.{statement}
 use Rattle.coupler.proofs.settings.code_in.Tie as tie
 
-returns : tie.Need-returns
-returns c =
-    rw (c .before .if1 .taken)
-
 returns-2 : tie.Need-returns-2
 returns-2 c =
-    rw (c .before .if2 .taken)
-
-returns-3 : tie.Need-returns-3
-returns-3 c =
-    let rows : length (c .before .before .args .t1) ≡ 2 = search needs in
-    let none : length (c .before .before .args .t1) ≤ c .before .before .args .direction = omega arith in
-    rw (List·getD-eq-default (c .before .before .args .t1) [] none)
+    let rows : length (c .before .args .t1) ≡ 2 = search needs in
+    let none : length (c .before .args .t1) ≤ c .before .args .direction = omega arith in
+    rw (List·getD-eq-default (c .before .args .t1) [] none)
 
 pub code-in-spec : {M : Type 1} → statement M
 code-in-spec =
@@ -30,6 +22,4 @@ code-in-spec =
     (λ c. search needs)
     (λ c. search needs)
     (λ c. search needs)
-    returns
-    returns-2
-    returns-3)
+    returns-2)

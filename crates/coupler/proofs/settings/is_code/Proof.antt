@@ -1,3 +1,4 @@
+-- The definition's tests, in its order.
 use mathlib.Core.Path.{refl}
 use Rattle.coupler.specs.Settings.{isCode}
 use Rattle.coupler.proofs.settings.is_code.Statement.{statement}

@@ -1,3 +1,4 @@
+-- The four codes of the row, as the calls ensure them.
 use borrow.Author.Needs.{needs}
 use Rattle.coupler.specs.Settings.{isRow}
 use Rattle.coupler.proofs.settings.is_row.Statement.{statement}

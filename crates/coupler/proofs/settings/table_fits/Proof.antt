@@ -1,3 +1,4 @@
+-- The definition's tests, with what `asks_table` ensures.
 use borrow.Author.Needs.{needs}
 use Rattle.coupler.specs.Settings.{tableFits}
 use Rattle.coupler.proofs.settings.table_fits.Statement.{statement}

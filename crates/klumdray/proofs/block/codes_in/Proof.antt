@@ -1,3 +1,4 @@
+-- The eight octets, as `octet` hands them out.
 use borrow.Author.Needs.{needs}
 use Rattle.klumdray.proofs.block.codes_in.Statement.{statement}
 use Rattle.klumdray.proofs.block.codes_in.Tie as tie

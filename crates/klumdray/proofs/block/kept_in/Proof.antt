@@ -1,3 +1,4 @@
+-- Each arm settles the test of the size.
 use mathlib.Core.Path.{refl}
 use native.Mathlib.Omega.{arith}
 use borrow.Author.Needs.{needs}

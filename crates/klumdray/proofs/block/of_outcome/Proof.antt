@@ -1,3 +1,4 @@
+-- The weights of the parts are apart, so that their sum fits; it is the definition's.
 use borrow.Author.Needs.{needs}
 use Rattle.klumdray.specs.Block.{outcomeNumber}
 use Rattle.klumdray.proofs.block.of_outcome.Statement.{statement}

@@ -1,3 +1,4 @@
+-- Each arm settles whether the frame was accepted.
 use borrow.Author.Needs.{needs}
 use Rattle.klumdray.proofs.block.remember_if.Statement.{statement}
 use Rattle.klumdray.proofs.block.remember_if.Tie as tie

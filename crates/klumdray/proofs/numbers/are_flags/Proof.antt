@@ -1,3 +1,4 @@
+-- The definition's tests, in its order.
 use mathlib.Core.Path.{refl}
 use Rattle.klumdray.specs.Numbers.{areFlags}
 use Rattle.klumdray.proofs.numbers.are_flags.Statement.{statement}

@@ -1,3 +1,4 @@
+-- Each arm knows its case of the answer.
 use borrow.Author.Needs.{needs}
 use Rattle.klumdray.proofs.numbers.of_cemi.Statement.{statement}
 use Rattle.klumdray.proofs.numbers.of_cemi.Tie as tie

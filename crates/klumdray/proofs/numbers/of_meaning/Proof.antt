@@ -1,3 +1,4 @@
+-- The sum of the definition, with the octet of flags that the call ensures.
 use borrow.Author.Needs.{needs}
 use Rattle.klumdray.specs.Numbers.{meaningNumber}
 use Rattle.klumdray.proofs.numbers.of_meaning.Statement.{statement}

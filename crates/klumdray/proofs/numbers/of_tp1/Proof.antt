@@ -1,3 +1,4 @@
+-- Each arm knows its case of the answer.
 use borrow.Author.Needs.{needs}
 use Rattle.klumdray.proofs.numbers.of_tp1.Statement.{statement}
 use Rattle.klumdray.proofs.numbers.of_tp1.Tie as tie

@@ -1,3 +1,4 @@
+-- Each arm knows its case of the answer; a size that has a number does not overflow.
 use mathlib.Core.Path.{subst}
 use native.Mathlib.Omega.{arith}
 use borrow.Author.Needs.{needs}

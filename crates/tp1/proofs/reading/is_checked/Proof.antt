@@ -1,3 +1,4 @@
+-- The last octet beside the check octet of the part before it.
 use mathlib.Core.Path.{sym}
 use native.Mathlib.Omega.{arith}
 use lib.Seq.{length-take-le}

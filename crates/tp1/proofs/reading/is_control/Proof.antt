@@ -1,3 +1,4 @@
+-- The definition's tests, in its order.
 use mathlib.Core.Path.{refl}
 use Rattle.frame.specs.Fields.{isControl}
 use Rattle.tp1.proofs.reading.is_control.Statement.{statement}

@@ -1,3 +1,4 @@
+-- The format's test and the octet of LG, as the calls ensure them.
 use borrow.Author.Needs.{needs}
 use Rattle.tp1.specs.Reading.{isEscape}
 use Rattle.tp1.proofs.reading.is_escape.Statement.{statement}

@@ -1,3 +1,4 @@
+-- The first octet, as `octet` hands it out.
 use borrow.Author.Needs.{needs}
 use Rattle.tp1.specs.Reading.{isExtended}
 use Rattle.tp1.proofs.reading.is_extended.Statement.{statement}

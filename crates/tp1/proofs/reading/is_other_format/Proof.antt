@@ -1,3 +1,4 @@
+-- The format's test and CTRLE, as the calls ensure them.
 use borrow.Author.Needs.{needs}
 use Rattle.tp1.specs.Reading.{isOtherFormat}
 use Rattle.tp1.proofs.reading.is_other_format.Statement.{statement}

@@ -1,3 +1,4 @@
+-- The head is the list of what the calls ensure; `lay` puts it over the room.
 use borrow.Author.Needs.{needs}
 use Rattle.tp1.proofs.writing.put_extended_head.Statement.{statement}
 use Rattle.tp1.proofs.writing.put_extended_head.Tie as tie

@@ -1,3 +1,4 @@
+-- The check octet of the part before it, stored behind it.
 use mathlib.Core.Path.{sym}
 use native.Mathlib.Omega.{arith}
 use lib.Seq.{length-take-le}

@@ -1,0 +1,132 @@
+-- What a step promises, read off its definition: forwarded exactly if everything allows it, acknowledged exactly if due, the memory
+-- exactly the accepted frame, and a series exactly the fold.
+use Prim.Native.Nat.{ℕ, _≤_}
+use mathlib.Core.Bool.{Bool, true, false, not, cond, _&&_, _||_}
+use mathlib.Core.List.{List, [], _∷_}
+use mathlib.Core.Logic.{_↔_}
+use mathlib.Core.Path.{_≡_, refl, ap, _∙_}
+use native.Mathlib.Omega.{arith}
+use lib.Dec.{eqb}
+use lib.ListN.{length, drop}
+use lib.Seq.{take-at}
+use borrow.Author.Tests.{eqb-false, not-true, le-leb, ne-eqb}
+use Rattle.coupler.proofs.StepLaws.{forwarded-ranged, indication-ranged}
+use Rattle.coupler.specs.Memory.{kept, recalled, remembering, sideOf, rememberedOn}
+use Rattle.coupler.specs.Passing.{isOwn, mayPass}
+use Rattle.coupler.specs.Series.{Input, Done, doneBy, series, Follows}
+use Rattle.coupler.specs.Step.{Setting, fromIp, toIp, Heard, isAllowed, repeats, isForwarded, acknowledgementBy, forwardedMeaning, indication, formOf, forwardedOctets, refusedOutcome, outcomeOf, sent, memoryAfter, Did, frame, nothing}
+use Rattle.coupler.specs.declared.Acknowledgement.the-variants.{Silence, Acknowledged}
+use Rattle.coupler.specs.declared.Memory.{Memory}
+use Rattle.coupler.specs.declared.Remembered.{Remembered}
+use Rattle.frame.specs.Valid.{Valid}
+use Rattle.frame.specs.declared.Meaning.{Meaning}
+use Rattle.frame.specs.declared.Refusal.{Refusal}
+use Rattle.octets.proofs.Below.{and-true}
+use Rattle.octets.proofs.Room.{laid-front}
+use Rattle.routing.proofs.LayoutLaws.{length-routing}
+use Rattle.routing.proofs.RoundTrip.{routing-read}
+use Rattle.routing.specs.Layout.{routingOctets}
+use Rattle.routing.specs.Reading.{readRouting}
+use Rattle.tp1.proofs.LayoutLaws.{length-octets}
+use Rattle.tp1.proofs.RoundTrip.{laid-read}
+use Rattle.tp1.specs.Layout.{tp1Octets}
+use Rattle.tp1.specs.Reading.{readTp1}
+use Rattle.tp1.specs.declared.Tp1Answer.the-variants.{Frame}
+use Rattle.cemi.specs.declared.CemiAnswer.the-variants.{Frame as Message-is}
+
+-- "A coupler forwards exactly if address, settings and hop count allow it and the frame is no repetition." (`mayPass` holds of no frame
+-- for the coupler itself.)
+pub record Lets (k : Setting) (remembered : List ℕ) (m : Meaning) : Type 0 where
+  pub passes : mayPass (k .line) (k .codes) (k .table) (k .side) (m .group) (m .destination) ≡ true
+  pub counted : m .count ≡ 0 → ⊥
+  pub new : repeats k remembered m ≡ false
+
+-- accepted, and let through
+abbrev pub Forwards : Setting → List ℕ → Heard → Type 0
+Forwards k remembered (frame m p) = Lets k remembered m
+Forwards k remembered (nothing r) = ⊥
+
+some-octets : (k : Setting) (m : Meaning) (p : List ℕ) → length (forwardedOctets k m p) ≡ 0 → ⊥
+unfolding formOf
+some-octets k m p = go (toIp k)
+  where
+    go : (b : Bool) → length (cond b (routingOctets (indication (forwardedMeaning m)) p) (tp1Octets (forwardedMeaning m) p)) ≡ 0 → ⊥
+    go true e = omega (arith, length-routing (indication (forwardedMeaning m)) p)
+    go false e = omega (arith, length-octets (forwardedMeaning m) p)
+
+lets-iff : (k : Setting) (remembered : List ℕ) (m : Meaning) → isForwarded k (repeats k remembered m) m ≡ true ↔ Lets k remembered m
+lets-iff k remembered m = (
+  (λ e.
+      let a = and-true (isAllowed k m) (not (repeats k remembered m)) e in
+      let q = and-true (mayPass (k .line) (k .codes) (k .table) (k .side) (m .group) (m .destination)) (not (eqb (m .count) 0)) (a .0) in
+      record { passes = q .0; counted = eqb-false (m .count) 0 (not-true (eqb (m .count) 0) (q .1)); new = not-true (repeats k remembered m) (a .1) }),
+  (λ f. rw (f .passes, ne-eqb (m .count) 0 (f .counted), f .new)),
+)
+
+pub forwarded-iff : (k : Setting) (remembered : List ℕ) (h : Heard) → (outcomeOf k remembered h .forwarded ≡ 0 → ⊥) ↔ Forwards k remembered h
+forwarded-iff k remembered (frame m p) = (go (isForwarded k (repeats k remembered m) m) refl, λ f e. some-octets k m p (rw (lets-iff k remembered m .1 f) at e))
+  where
+    go : (b : Bool) → isForwarded k (repeats k remembered m) m ≡ b → (length (cond b (forwardedOctets k m p) []) ≡ 0 → ⊥) → Lets k remembered m
+    go true e n = lets-iff k remembered m .0 e
+    go false e n = absurd (n refl)
+forwarded-iff k remembered (nothing r) = ((λ n. absurd (n refl)), λ f. absurd f)
+
+-- what is sent is the layout of the meaning with the count by the hop rule and first sending
+pub sent-is : (k : Setting) (remembered : List ℕ) (m : Meaning) (p : List ℕ) → Lets k remembered m → sent k remembered (frame m p) ≡ forwardedOctets k m p
+sent-is k remembered m p f = rw (lets-iff k remembered m .1 f)
+
+-- and reads back, by the reader of its medium, as just that
+forwarded-valid : (m : Meaning) (p : List ℕ) → Valid m p → Valid (forwardedMeaning m) p
+forwarded-valid m p v = record { ranges = forwarded-ranged m (length p) (v .ranges); source = v .source; destination = v .destination; octets = v .octets }
+
+pub sent-reads-tp1 : (k : Setting) (m : Meaning) (p : List ℕ) → Valid m p → toIp k ≡ false → readTp1 (forwardedOctets k m p) ≡ Frame (forwardedMeaning m)
+unfolding formOf
+sent-reads-tp1 k m p v e = rw e (laid-read (forwardedMeaning m) p (forwarded-valid m p v))
+
+pub sent-reads-ip : (k : Setting) (m : Meaning) (p : List ℕ) → Valid m p → toIp k ≡ true → readRouting (forwardedOctets k m p) ≡ Message-is (indication (forwardedMeaning m))
+unfolding formOf
+sent-reads-ip k m p v e = rw e (routing-read (indication (forwardedMeaning m)) p (record { ranges = indication-ranged m (length p) (v .ranges); valid = forwarded-valid m p v }))
+
+-- "A TP1 frame gets CCh exactly if it is for the coupler itself or, repetition or not, its address, codes and count allow forwarding"
+pub acknowledged-iff : (k : Setting) (remembered : List ℕ) (m : Meaning) (p : List ℕ) → outcomeOf k remembered (frame m p) .acknowledgement ≡ Acknowledged
+    ↔ ((fromIp k ≡ false) × (isOwn (k .line) (m .group) (m .destination) || isAllowed k m ≡ true))
+unfolding acknowledgementBy
+acknowledged-iff k remembered m p = go (not (fromIp k)) (isOwn (k .line) (m .group) (m .destination) || isAllowed k m) refl
+  where
+    go : (a b : Bool) → not (fromIp k) ≡ a → cond (a && b) Acknowledged Silence ≡ Acknowledged ↔ ((fromIp k ≡ false) × (b ≡ true))
+    go true true e = ((λ x. (not-true (fromIp k) e, refl)), λ x. refl)
+    go true false e = ((λ x. let z : _≡_ {A = ℕ} 0 1 = cc in absurd (omega arith)), λ x. let z : _≡_ {A = ℕ} 0 1 = cc (x .1) in absurd (omega arith))
+    go false b e = ((λ x. let z : _≡_ {A = ℕ} 0 1 = cc in absurd (omega arith)), λ x. let z : _≡_ {A = ℕ} 0 1 = cc (x .0) in absurd (omega arith))
+
+-- a refused frame is neither acknowledged nor forwarded, and changes no memory
+pub refused-nothing : (k : Setting) (remembered : List ℕ) (m : Memory) (s : List ℕ) (r : Refusal)
+    → (outcomeOf k remembered (nothing r) ≡ refusedOutcome r) × ((sent k remembered (nothing r) ≡ []) × (memoryAfter k m s (nothing r) ≡ m))
+refused-nothing k remembered m s r = (refl, (refl, refl))
+
+-- "Afterwards the accepted frame is the remembered one": what its side recalls then is the frame, and the other side recalls what it did
+
+recalls : (r : Remembered) (s : List ℕ) → length (r .octets) ≡ 263 → length s ≤ 263 → recalled (remembering r s) ≡ s
+unfolding recalled kept remembering
+recalls r s n k = rw (le-leb (length s) 263 k, laid-front s (r .octets) (omega arith)) (take-at s (drop (length s) (r .octets)) (length s) refl)
+
+pub remembers-main : (m : Memory) (s : List ℕ) → length (m .main .octets) ≡ 263 → length s ≤ 263 → (recalled (sideOf (rememberedOn m 0 s) 0) ≡ s) × (rememberedOn m 0 s .sub ≡ m .sub)
+unfolding rememberedOn
+remembers-main m s n k = (recalls (m .main) s n k, refl)
+
+pub remembers-sub : (m : Memory) (s : List ℕ) → length (m .sub .octets) ≡ 263 → length s ≤ 263 → (recalled (sideOf (rememberedOn m 1 s) 1) ≡ s) × (rememberedOn m 1 s .main ≡ m .main)
+unfolding rememberedOn
+remembers-sub m s n k = (recalls (m .sub) s n k, refl)
+
+-- a series of steps, by value or in place, is the fold
+
+done-one : (m : Memory) (i : Input) (d : Done) → Did (i .setting) m (i .octets) (i .room) (d .outcome) (d .memory) (d .room) → d ≡ doneBy m i
+done-one m i d x = λ j. record { outcome = x .handed .outcome j; memory = x .memory j; room = x .handed .left j }
+
+pub follows-series : (m : Memory) (is : List Input) (ds : List Done) → Follows m is ds → ds ≡ series m is
+follows-series m [] [] f = refl
+follows-series m [] (d ∷ ds) f = absurd f
+follows-series m (i ∷ is) [] f = absurd f
+follows-series m (i ∷ is) (d ∷ ds) f =
+    let e : d ≡ doneBy m i = done-one m i d (f .0) in
+    let q : ds ≡ series (d .memory) is = follows-series (d .memory) is ds (f .1) in
+    ap (λ (x : Done). x ∷ ds) e ∙ ap (λ (l : List Done). doneBy m i ∷ l) (q ∙ ap (λ (x : Done). series (x .memory) is) e)

@@ -1,0 +1,41 @@
+-- A series of frames: the step as a fold over a list of inputs, the memory handed on from each to the next.
+use mathlib.Core.List.{List, [], _∷_}
+use Prim.Native.Nat.{ℕ}
+use lib.ListN.{length}
+use Rattle.octets.specs.Room.{over}
+use Rattle.coupler.specs.declared.Outcome.{Outcome}
+use Rattle.coupler.specs.declared.Memory.{Memory}
+use Rattle.coupler.specs.Memory.{recalled, sideOf}
+use Rattle.coupler.specs.Step.{Setting, Did, heard, outcomeOf, sent, memoryAfter}
+
+pub record Input : Type 0 where
+  pub setting : Setting
+  pub octets : List ℕ
+  pub room : List ℕ
+
+-- what a step leaves: its outcome, the memory and the room
+pub record Done : Type 0 where
+  pub outcome : Outcome
+  pub memory : Memory
+  pub room : List ℕ
+
+abbrev pub doneBy : Memory → Input → Done
+doneBy m i =
+    let h = heard (i .setting) (i .octets) (length (i .room)) in
+    let remembered = recalled (sideOf m (i .setting .side)) in
+    record {
+      outcome = outcomeOf (i .setting) remembered h;
+      memory = memoryAfter (i .setting) m (i .octets) h;
+      room = over (sent (i .setting) remembered h) (i .room);
+    }
+
+abbrev pub series : Memory → List Input → List Done
+series m [] = []
+series m (i ∷ is) = doneBy m i ∷ series (doneBy m i .memory) is
+
+-- each element is what a step, by value or in place, may leave: both have the one contract `Did`
+abbrev pub Follows : Memory → List Input → List Done → Type 0
+Follows m [] [] = Unit {0}
+Follows m [] (d ∷ ds) = ⊥
+Follows m (i ∷ is) [] = ⊥
+Follows m (i ∷ is) (d ∷ ds) = Did (i .setting) m (i .octets) (i .room) (d .outcome) (d .memory) (d .room) × Follows (d .memory) is ds

@@ -1,0 +1,257 @@
+//! The comparison for the coupler step: the proved library and the bindings over it beside the
+//! reference, in series that carry the memory on.
+
+#[path = "support/couplers.rs"]
+mod couplers;
+#[path = "support/generator.rs"]
+mod generator;
+#[path = "support/traffic.rs"]
+mod traffic;
+#[path = "support/wrong_couplers.rs"]
+mod wrong_couplers;
+
+use couplers::{library_step, packed, put_frame, reference_step, Comparison, Lent, Stepper};
+use couplers::{LARGEST_ROOM, MEMORY};
+use generator::{seed, Generator};
+use klumdray::coupler::{Medium, Memory, Settings, Side};
+use klumdray::raw::Setting;
+use reference::coupler::{Coupler, Outcome, TABLE_SIZE};
+use traffic::Series;
+
+const NUMBERS: [u8; 17] = [0, 1, 2, 3, 4, 5, 6, 7, 8, 9, 10, 11, 12, 13, 14, 15, 18];
+const LONGEST_SERIES: u64 = 100;
+
+/// How much is compared.
+#[derive(Clone, Copy)]
+struct Extent {
+    steps: u64,
+    /// Whether memories with sizes above 263 are lent.
+    spoils_sizes: bool,
+}
+
+const LIBRARY: Extent = Extent {
+    steps: 2_000_000,
+    spoils_sizes: true,
+};
+
+/// The bindings have no such memory.
+const BINDINGS: Extent = Extent {
+    steps: 1_000_000,
+    spoils_sizes: false,
+};
+
+/// Series of steps: of one coupler, in every second one with other settings, or of a new one with
+/// nothing remembered.
+fn compare<'s>(
+    proved: &'s mut Stepper,
+    reference: &'s mut Stepper,
+    seed: u64,
+    extent: Extent,
+) -> Result<Comparison<'s>, String> {
+    let mut comparison = Comparison::new(proved, reference);
+    let generator = &mut Generator::new(seed);
+    let mut series = Series::new(generator);
+    while comparison.steps() < extent.steps {
+        if generator.below(2) == 0 {
+            series = Series::new(generator);
+            comparison.forget();
+        } else {
+            series.set(generator);
+        }
+        for _ in 0..=generator.below(LONGEST_SERIES) {
+            if extent.spoils_sizes && generator.below(100) == 0 {
+                let more = [0, generator.below(65_536 - 264)][generator.below(2) as usize];
+                comparison.spoil_size(generator.below(2) as usize, 264 + more as u16);
+            }
+            let step = series.step(generator);
+            comparison.step(series.setting(&step), step.memory, &step.octets, step.room)?;
+        }
+    }
+    Ok(comparison)
+}
+
+fn assert_agrees(name: &str, proved: &mut Stepper, extent: Extent) {
+    let seed = seed();
+    println!("coupler, {name} and reference, KLUMDRAY_SEED={seed:#x}");
+    match compare(proved, &mut reference_step, seed, extent) {
+        Ok(comparison) => {
+            println!("coupler, {name}: {comparison}");
+            comparison.assert_covers(extent.steps, &NUMBERS);
+        }
+        Err(difference) => panic!("KLUMDRAY_SEED={seed:#x}: {difference}"),
+    }
+}
+
+#[test]
+fn library_agrees_with_the_reference() {
+    assert_agrees("library", &mut library_step, LIBRARY);
+}
+
+#[test]
+fn bindings_agree_with_the_reference() {
+    let mut memory = Memory::new();
+    let mut step = move |lent: &mut Lent<'_>| bindings_step(&mut memory, lent);
+    assert_agrees("bindings", &mut step, BINDINGS);
+}
+
+/// By the bindings, wherever their types have what is lent, and with their own memory, whose
+/// frames are put into the block.
+fn bindings_step(memory: &mut Memory, lent: &mut Lent<'_>) -> u64 {
+    let Setting { side, medium, .. } = lent.setting;
+    let (Some(Coupler { line, codes, table }), MEMORY, 0..=1, 0..=1) =
+        (lent.coupler(), lent.memory.len(), side, medium)
+    else {
+        return library_step(lent);
+    };
+    if lent.memory.iter().all(|&octet| octet == 0) {
+        *memory = Memory::new();
+    }
+    let settings = Settings { line, codes, table };
+    let side = [Side::Main, Side::Sub][usize::from(side)];
+    let medium = [Medium::Tp1, Medium::Ip][usize::from(medium)];
+    let front = lent.room.as_ptr();
+    let outcome = klumdray::coupler::step(&settings, side, medium, memory, lent.octets, lent.room);
+    let outcome = outcome.map_err(|refusal| refusal.number()).map(|outcome| {
+        assert_eq!(outcome.forwarded.as_ptr(), front);
+        Outcome {
+            acknowledged: outcome.acknowledged,
+            own: outcome.own,
+            forwarded: outcome.forwarded.len(),
+        }
+    });
+    for (place, side) in [Side::Main, Side::Sub].into_iter().enumerate() {
+        put_frame(lent.memory, place, memory.remembered(side).unwrap_or(&[]));
+    }
+    packed(outcome)
+}
+
+/// A standard frame of 8 octets, first sending, with count 6.
+fn frame(group: bool, destination: u16) -> [u8; 8] {
+    let [d1, d0] = destination.to_be_bytes();
+    let mut octets = [0xbc, 0xaf, 0xfe, d1, d0, u8::from(group) << 7 | 0x60, 0, 0];
+    octets[7] = reference::check_octet(&octets[..7]);
+    octets
+}
+
+/// Asserts for both directions that the library lets pass what the reference's rule does, and
+/// says how many passed.
+fn assert_passes(coupler: &Coupler<'_>, group: bool, destinations: &[u16]) -> u64 {
+    use reference::coupler::Side;
+    let (mut memory, mut room, mut passed) = ([0; MEMORY], [0; LARGEST_ROOM], 0);
+    for (number, side) in [(0, Side::Main), (1, Side::Sub)] {
+        let setting = Setting {
+            line: coupler.line,
+            codes: coupler.codes.as_flattened(),
+            table: coupler.table,
+            side: number,
+            medium: 0,
+        };
+        for &destination in destinations {
+            let octets = frame(group, destination);
+            let answer = klumdray::raw::step(&setting, &mut memory, &octets, &mut room);
+            let own = !group && destination == u16::from(coupler.line) << 8;
+            let passes = coupler.may_pass(side, group, destination);
+            let expected = packed(Ok(Outcome {
+                acknowledged: own || passes,
+                own,
+                forwarded: if passes { octets.len() } else { 0 },
+            }));
+            let line = coupler.line;
+            assert_eq!(
+                answer, expected,
+                "line {line:02x} side {number} to {destination:04x}"
+            );
+            passed += u64::from(passes);
+        }
+    }
+    passed
+}
+
+#[test]
+fn all_groups_agree() {
+    let seed = seed();
+    let table = Generator::new(seed).octets(TABLE_SIZE);
+    let coupler = Coupler {
+        line: 0x47,
+        codes: [[0, 2, 1, 1], [0, 0, 1, 1]],
+        table: &table,
+    };
+    println!("all group addresses, both directions, KLUMDRAY_SEED={seed:#x}");
+    let groups: Vec<u16> = (0..=0xffff).collect();
+    let passed = assert_passes(&coupler, true, &groups);
+    println!("{} asked, {passed} passed", 2 * groups.len());
+    assert!((60_000..71_000).contains(&passed));
+}
+
+fn is_emulated() -> bool {
+    klumdray::LINKED == "emulated"
+}
+
+/// All, or a sample where each call goes to an emulated process: the first and the last address of
+/// each line, and so of each area, and others at equal distances from a start by the seed.
+fn destinations(generator: &mut Generator) -> Vec<u16> {
+    if !is_emulated() {
+        return (0..=0xffff).collect();
+    }
+    let borders = (0..=0xff).flat_map(|high: u16| [high << 8, high << 8 | 0xff]);
+    let others = (generator.below(44) as u16..=0xffff).step_by(44);
+    borders.chain(others).collect()
+}
+
+#[test]
+fn individual_addresses_agree_on_all_lines() {
+    let seed = seed();
+    let extent = if is_emulated() {
+        "SAMPLED, since the library is emulated"
+    } else {
+        "all 65,536"
+    };
+    println!("individual addresses: {extent}; 255 lines, both directions, KLUMDRAY_SEED={seed:#x}");
+    let generator = &mut Generator::new(seed);
+    let (mut asked, mut passed) = (0, 0);
+    for line in 1..=255 {
+        let coupler = Coupler {
+            line,
+            codes: [[1, 0, 0, 0]; 2],
+            table: &[],
+        };
+        let destinations = destinations(generator);
+        asked += 2 * destinations.len();
+        passed += assert_passes(&coupler, false, &destinations);
+    }
+    println!("{asked} asked, {passed} passed");
+}
+
+fn assert_noticed(references: Vec<(&str, Box<Stepper>)>) {
+    for (name, mut reference) in references {
+        match compare(&mut library_step, &mut *reference, seed(), LIBRARY) {
+            Ok(_) => panic!("not noticed: {name}"),
+            Err(difference) => println!("{name}: {difference:.160}"),
+        }
+    }
+}
+
+#[test]
+fn wrong_forwarding_is_noticed() {
+    assert_noticed(wrong_couplers::forwarding());
+}
+
+#[test]
+fn wrong_passing_is_noticed() {
+    assert_noticed(wrong_couplers::passing());
+}
+
+#[test]
+fn wrong_acknowledging_is_noticed() {
+    assert_noticed(wrong_couplers::acknowledging());
+}
+
+#[test]
+fn wrong_remembering_is_noticed() {
+    assert_noticed(wrong_couplers::remembering());
+}
+
+#[test]
+fn wrong_refusing_is_noticed() {
+    assert_noticed(wrong_couplers::refusing());
+}
