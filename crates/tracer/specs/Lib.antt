@@ -1,0 +1,5 @@
+pub mod Lines
+pub mod Listing
+pub mod Tracing
+pub mod Reaching
+pub mod Why
