@@ -15,7 +15,7 @@ pub by-cases : {P : Type 0} (b : Bool) → (b ≡ true → P) → (b ≡ false �
 by-cases true f g = f refl
 by-cases false f g = g refl
 
-never : {P : Type 0} → true ≡ false → P
+pub never : {P : Type 0} → true ≡ false → P
 never e = let z : _≡_ {A = ℕ} 0 1 = cc in absurd (omega arith)
 
 main-flat : (n : ℕ) → mainSide n % 16 ≡ 0
