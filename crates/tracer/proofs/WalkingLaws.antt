@@ -44,9 +44,9 @@ module _ (st : Stores) (site : List ℕ) (group : Bool) (destination : ℕ) wher
 
   pub up-more : (w : Walk) {next r : Walk} {main : ℕ} (from to : ℕ) {b : Bool} → b ≡ isOn from (mainSides to) → b ≡ false → next ≡ handedOn st site group destination w (up from) → main ≡ mainSide from
       → r ≡ walked st site group destination next (upOver (before (mainSides main) (mainSides to))) → r ≡ walked st site group destination w (upOver (before (mainSides from) (mainSides to)))
-  up-more w {next} from to e f n m r =
+  up-more w {main = main} from to e f n m r =
       r
-      ∙ ap (λ (v : Walk). walked st site group destination v (upOver (before (mainSides _) (mainSides to)))) n
+      ∙ ap (λ (v : Walk). walked st site group destination v (upOver (before (mainSides main) (mainSides to)))) n
       ∙ ap (λ (k : ℕ). walked st site group destination (handedOn st site group destination w (up from)) (upOver (before (mainSides k) (mainSides to)))) m
       ∙ ap (λ (l : List ℕ). walked st site group destination w (upOver l)) (sym (before-off from (mainSides to) (not-zero from to (sym e ∙ f)) (sym e ∙ f)))
 
