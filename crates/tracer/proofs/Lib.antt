@@ -2,3 +2,4 @@ pub mod Paths
 pub mod ReachingLaws
 pub mod RoomLaws
 pub mod WalkingLaws
+pub mod Explained
