@@ -1,3 +1,5 @@
 pub mod Paths
 pub mod ReachingLaws
 pub mod RoomLaws
+pub mod ListLaws
+pub mod ListedBy

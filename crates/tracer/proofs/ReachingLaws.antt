@@ -46,7 +46,7 @@ handed-on : (c d : ℕ) (b : Bool) → handed c (suc d) b ≡ cond (b && lasts c
 unfolding handed
 handed-on c d b = rw (lt-ltb 0 (suc d) (omega arith))
 
-and-false : (a : Bool) → a && false ≡ false
+pub and-false : (a : Bool) → a && false ≡ false
 and-false true = refl
 and-false false = refl
 
@@ -63,7 +63,7 @@ along-from f c d (x ∷ p) h =
         (λ k. rw (e, k, lasts-less c (suc d) (length p) k, and-false (allPass f p)) (along-zero f c p)))
     (λ e. rw e (along-zero f c p)))
 
-lasts-none : (c : ℕ) → lasts c 0 ≡ true
+pub lasts-none : (c : ℕ) → lasts c 0 ≡ true
 unfolding lasts
 lasts-none c = rw (le-leb 0 c (omega arith)) (by-cases (eqb c 7) (λ e. rw e refl) (λ e. rw e refl))
 

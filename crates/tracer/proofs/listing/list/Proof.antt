@@ -2,7 +2,6 @@
 use Prim.Native.Nat.{_-_}
 use native.Mathlib.Omega.{arith}
 use Rattle.tracer.proofs.RoomLaws.{Listing, listing-none, listing-more, listing-all}
-use Rattle.tracer.specs.Listing.{listed}
 use Rattle.tracer.proofs.listing.list.Statement.{statement}
 use Rattle.tracer.proofs.listing.list.Tie as tie
 

@@ -5,8 +5,7 @@ use mathlib.Core.Path.{refl}
 use native.Mathlib.Omega.{arith}
 use borrow.Author.Tests.{lt-ltb, le-ltb}
 use Rattle.tracer.proofs.ReachingLaws.{Spreading, spreading-none, made-few, spreading-all, spreading-more}
-use Rattle.tracer.specs.Lines.{mainSide, up, down}
-use Rattle.tracer.specs.Listing.{forwardings}
+use Rattle.tracer.specs.Lines.{mainSide}
 use Rattle.tracer.specs.Reaching.{marked}
 use Rattle.tracer.proofs.reaching.spread.Statement.{statement}
 use Rattle.tracer.proofs.reaching.spread.Tie as tie
