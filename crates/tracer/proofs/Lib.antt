@@ -1,5 +1,6 @@
 pub mod Paths
 pub mod ReachingLaws
 pub mod RoomLaws
+pub mod WalkingLaws
 pub mod ListLaws
 pub mod ListedBy
