@@ -3,3 +3,5 @@ pub mod ReachingLaws
 pub mod RoomLaws
 pub mod WalkingLaws
 pub mod Explained
+pub mod ListLaws
+pub mod ListedBy
