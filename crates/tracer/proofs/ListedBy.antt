@@ -1,12 +1,20 @@
 -- The marks of the couplers, how the telegram spreads over them and the list of the lines reached, put together: that list is the
 -- definition's. Marks are known of the lines below 256, and a path between two of those crosses no other coupler.
-use Prim.Native.Nat.{ℕ, zero, suc, _-_, _<_}
+use Prim.Native.Nat.{ℕ, zero, suc, _-_, _≤_, _<_}
 use mathlib.Core.Bool.{Bool, true, _&&_}
 use mathlib.Core.List.{List, [], _∷_, _++_}
-use mathlib.Core.Path.{_≡_, refl, ap, _∙_}
+use mathlib.Core.Path.{_≡_, refl, sym, ap, _∙_}
 use native.Mathlib.Omega.{arith}
 use lib.Dec.{eqb}
-use lib.ListN.{getD}
+use lib.ListN.{length, getD}
+use borrow.Author.Tests.{ltb-false}
+use Rattle.coupler.proofs.StepLaws.{judged-fine, judged-refused}
+use Rattle.coupler.specs.Step.{judgedBy}
+use Rattle.coupler.specs.declared.Judged.{Judged}
+use Rattle.frame.proofs.Order.{passed-iff}
+use Rattle.frame.specs.Order.{Test, firstOf}
+use Rattle.frame.specs.Refusals.{number}
+use Rattle.frame.specs.declared.Refusal.{Refusal}
 use Rattle.octets.specs.Room.{over}
 use Rattle.site.specs.Letting.{lets, Marks}
 use Rattle.site.specs.Records.{recordsOf}
@@ -14,10 +22,11 @@ use Rattle.site.specs.Stores.{Stores}
 use Rattle.tracer.proofs.Paths.{by-cases, main-below, by-mains, on-zero, before-on, before-off}
 use Rattle.tracer.proofs.ReachingLaws.{reach-listed, reach-reached}
 use Rattle.tracer.specs.Lines.{mainSides, isOn, before, Crossing, up, down, upOver, downOver, path, distance}
-use Rattle.tracer.specs.Listing.{Query, letsPass, allPass, isListed, entry, eachBelow, countBelow, listed, linesListed, isForwardedTo, forwardings}
+use Rattle.tracer.specs.Listing.{Query, queryOf, letsPass, allPass, isListed, entry, eachBelow, countBelow, listed, linesListed, isForwardedTo, forwardings}
 use Rattle.tracer.specs.Reaching.{reach, marked, Spread, isReached, entryBy}
-use Rattle.tracer.specs.Tracing.{DidList}
+use Rattle.tracer.specs.Tracing.{traceTests, DidList, DidTrace}
 use Rattle.tracer.specs.declared.Traced.{Traced}
+use Rattle.coupler.specs.declared.Judged.the-variants.{Fine, Refused as NotFine}
 
 each-same : (f g : ℕ → List ℕ) (n : ℕ) → ((i : ℕ) → i < n → f i ≡ g i) → eachBelow f n ≡ eachBelow g n
 each-same f g zero h = refl
@@ -121,3 +130,25 @@ module _ (st : Stores) (site : List ℕ) (q : Query) {downward upward : List Boo
           answered = by-three (l .0 ∙ counted) handed-on;
           left = l .1 ∙ ap (λ (o : List ℕ). over o room) entries;
         }
+
+-- the verdict, and by it the refusal or the list
+module _ (st : Stores) (site : List ℕ) (kind count : ℕ) (room : List ℕ) {judged : Judged}
+    (j : judged ≡ judgedBy (firstOf (traceTests st site (queryOf 0 kind 0 count) (length room)))) where
+  abbrev tests : List Test
+  tests = traceTests st site (queryOf 0 kind 0 count) (length room)
+
+  pub trace-room : judged ≡ Fine → 768 ≤ length room
+  trace-room e = ltb-false (length room) 768 (passed-iff tests .0 (judged-fine (firstOf tests) (sym e ∙ j)) .1 .0)
+
+  module _ (start destination : ℕ) where
+    pub trace-refused : (r : Refusal) {n : ℕ} → judged ≡ NotFine r → n ≡ number r
+        → DidTrace st site (queryOf start kind destination count) room (record { number = n; lines = 0; forwardings = 0 }) room
+    trace-refused r e n =
+        let v = judged-refused (firstOf tests) r (sym e ∙ j) in
+        record { answered = rw (v, n) refl; left = rw v refl }
+
+    pub trace-listed : {answer : Traced} {room′ : List ℕ} → judged ≡ Fine → DidList st site (queryOf start kind destination count) room answer room′
+        → DidTrace st site (queryOf start kind destination count) room answer room′
+    trace-listed e l =
+        let v = judged-fine (firstOf tests) (sym e ∙ j) in
+        record { answered = rw v (l .answered); left = rw v (l .left) }

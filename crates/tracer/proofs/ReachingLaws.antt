@@ -17,7 +17,7 @@ use Rattle.tracer.specs.Listing.{allPass, lasts, isListed, countBelow, i
 use Rattle.tracer.specs.Reaching.{handed, along, reach, marked, climbing, reachBy, Spread}
 
 -- one path after another
-pub along-append : (f : Crossing → Bool) (c l : ℕ) (p q : List Crossing) → along f c l (p ++ q) ≡ along f c (along f c l p) q
+along-append : (f : Crossing → Bool) (c l : ℕ) (p q : List Crossing) → along f c l (p ++ q) ≡ along f c (along f c l p) q
 along-append f c l [] q = refl
 along-append f c l (x ∷ p) q = along-append f c (handed c l (f x)) p q
 
@@ -29,13 +29,9 @@ handed-zero : (c : ℕ) (b : Bool) → handed c 0 b ≡ 0
 unfolding handed
 handed-zero c b = refl
 
-pub along-zero : (f : Crossing → Bool) (c : ℕ) (p : List Crossing) → along f c 0 p ≡ 0
+along-zero : (f : Crossing → Bool) (c : ℕ) (p : List Crossing) → along f c 0 p ≡ 0
 along-zero f c [] = refl
 along-zero f c (x ∷ p) = rw (handed-zero c (f x)) (along-zero f c p)
-
-pub along-most : (f : Crossing → Bool) (c l : ℕ) (p : List Crossing) → along f c l p ≤ l + length p
-along-most f c l [] = omega arith
-along-most f c l (x ∷ p) = omega (arith, along-most f c (handed c l (f x)) p, handed-most c l (f x))
 
 -- a count that lasts for so many couplers lasts for fewer
 lasts-less : (c d k : ℕ) → lasts c d ≡ false → lasts c (d + k) ≡ false
