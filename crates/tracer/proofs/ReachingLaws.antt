@@ -29,7 +29,7 @@ handed-zero : (c : ℕ) (b : Bool) → handed c 0 b ≡ 0
 unfolding handed
 handed-zero c b = refl
 
-along-zero : (f : Crossing → Bool) (c : ℕ) (p : List Crossing) → along f c 0 p ≡ 0
+pub along-zero : (f : Crossing → Bool) (c : ℕ) (p : List Crossing) → along f c 0 p ≡ 0
 along-zero f c [] = refl
 along-zero f c (x ∷ p) = rw (handed-zero c (f x)) (along-zero f c p)
 
