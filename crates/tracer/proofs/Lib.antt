@@ -1,1 +1,4 @@
 pub mod Paths
+pub mod Fitted
+pub mod Handing
+pub mod Journey

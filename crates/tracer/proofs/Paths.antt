@@ -15,7 +15,7 @@ pub by-cases : {P : Type 0} (b : Bool) → (b ≡ true → P) → (b ≡ false �
 by-cases true f g = f refl
 by-cases false f g = g refl
 
-never : {P : Type 0} → true ≡ false → P
+pub never : {P : Type 0} → true ≡ false → P
 never e = let z : _≡_ {A = ℕ} 0 1 = cc in absurd (omega arith)
 
 main-flat : (n : ℕ) → mainSide n % 16 ≡ 0
@@ -89,7 +89,7 @@ by-mains P z s n = go (depth n) n refl
 or-true : (a b : Bool) → a ≡ true → a || b ≡ true
 or-true a b e = rw e
 
-or-right : (a b : Bool) → b ≡ true → a || b ≡ true
+pub or-right : (a b : Bool) → b ≡ true → a || b ≡ true
 or-right true b e = refl
 or-right false b e = e
 
