@@ -244,8 +244,8 @@ none-before : (n : ℕ) (others : List ℕ) → isOn 0 others ≡ true → lengt
 none-before n others z e =
     by-cases (isOn n others) (λ q. q)
     (λ q.
-        let h : n ≡ 0 → ⊥ = λ w. never (sym z ∙ rw w at q) in
-        absurd (omega (arith, ap length (before-off n others h q))))
+    let h : n ≡ 0 → ⊥ = λ w. never (sym z ∙ rw w at q) in
+    absurd (omega (arith, ap length (before-off n others h q))))
 
 -- the starting line alone has an empty path
 pub distance-zero : (s t : ℕ) → distance s t ≡ 0 → s ≡ t
