@@ -7,9 +7,9 @@ use mathlib.Core.List.{List, [], _∷_, _++_}
 use mathlib.Core.Logic.{_↔_}
 use mathlib.Core.Path.{_≡_, refl, sym, ap, _∙_, subst}
 use native.Mathlib.Omega.{arith}
-use lib.Dec.{leb, eqb}
+use lib.Dec.{eqb}
 use lib.ListN.{length}
-use borrow.Author.Tests.{eqb-true, eqb-false, le-leb}
+use borrow.Author.Tests.{eqb-true, eqb-false}
 use Rattle.coupler.specs.Passing.{hopped}
 use Rattle.coupler.specs.Step.{forwardedMeaning}
 use Rattle.frame.proofs.Valid.{ranges-of, ranged}
@@ -27,10 +27,11 @@ use Rattle.tp1.specs.Reading.{readTp1}
 use Rattle.tp1.specs.declared.Tp1Answer.the-variants.{Frame}
 use Rattle.tracer.proofs.Fitted.{fitted-set, fitted-line, fitted-below}
 use Rattle.tracer.proofs.Handing.{hands-passes, passes-hands, hopped-more, distance-more, listed-more}
+use Rattle.tracer.proofs.ListLaws.{start-listed}
 use Rattle.tracer.proofs.Paths.{by-cases, never, main-below, mains-cons, by-mains, or-right, on-self, on-zero, on-below, on-next, on-main, path-same, path-down, path-up, distance-zero}
 use Rattle.tracer.specs.Journey.{Hands, Way, Arrives, ArrivesWith, askedOf, ListedWith, withCount, put, over, at-start, handed-up, handed-down}
 use Rattle.tracer.specs.Lines.{mainSide, mainSides, isOn, crossing, path, distance}
-use Rattle.tracer.specs.Listing.{Query, letsPass, lasts, isListed, onArrival, entry}
+use Rattle.tracer.specs.Listing.{Query, letsPass, isListed, onArrival, entry}
 
 -- which coupler is the last of the path from s to t: none, one that leads up from a line above s, or t's own
 data LastOf (s t : ℕ) (way : Way) : Type 0 where
@@ -194,15 +195,11 @@ module _ (st : Stores) (site : List ℕ) (w : firstOf (siteTests st site) ≡ pa
   nonzero : (n side : ℕ) (octets onward : List ℕ) → Hands st site n side octets onward → n ≡ 0 → ⊥
   nonzero n side octets onward x = fitted-line st n (couplerOf n (recordsOf site)) (fitted-set st site w n (x .fitted))
 
-  lists-start : Lists start
-  unfolding isListed lasts distance
-  lists-start = rw (path-same start) (or-right (eqb (m .count) 7) (leb 0 (m .count)) (le-leb 0 (m .count) (omega arith)))
-
   octets-start : tp1Octets (onLine start) p ≡ tp1Octets m p
   octets-start = ap (λ (k : ℕ). tp1Octets (withCount k m) p) (ap (onArrival (m .count)) (distance-same start) ∙ arrival-none (m .count))
 
   arrived : {t : ℕ} {octets : List ℕ} {way : Way} → Arrives st site start (tp1Octets m p) t octets way → Arrived t octets way
-  arrived at-start = record { lists = lists-start; are = sym octets-start; last = no-coupler refl refl }
+  arrived at-start = record { lists = start-listed (letsPass st site (askedOf start m)) start (m .count); are = sym octets-start; last = no-coupler refl refl }
   arrived (handed-up {n = n} {octets = o} {onward = o′} {way = y} a d x) =
       let b = arrived a in
       let h : n ≡ 0 → ⊥ = nonzero n 1 o o′ x in
@@ -221,34 +218,42 @@ module _ (st : Stores) (site : List ℕ) (w : firstOf (siteTests st site) ≡ pa
     way : Way
     arrives : Arrives st site start (tp1Octets m p) t (tp1Octets (onLine t) p) way
 
-  climbs : (d t : ℕ) → ((u : ℕ) → distance start u ≡ d → Lists u → Comes u) → distance start t ≡ suc d → Lists t → isOn t (mainSides start) ≡ true → Comes t
-  climbs d t ih e l q =
-      let a = above-of start t q (λ z. omega (arith, ap (distance start) (sym z), distance-same start)) in
-      let n : ℕ = a .0 in
-      let path-n : path start t ≡ path start n ++ (crossing 1 n ∷ []) = ap (path start) (a .1 .1 .1) ∙ path-up start n (a .1 .1 .0) (a .1 .0) in
-      let x = lists-step t n n 1 (omega arith) path-n l in
-      let c = ih n (omega (arith, distance-more start t n (crossing 1 n) path-n)) (x .0) in
-      let b = arrived (c .arrives) in
-      record {
-        way = over n;
-        arrives =
-            subst (λ (u : ℕ). Arrives st site start (tp1Octets m p) u (tp1Octets (onLine t) p) (over n)) (sym (a .1 .1 .1))
-            (handed-up (c .arrives) (not-up start n (c .way) (a .1 .0) (b .last) (a .1 .1 .0)) (x .1));
-      }
+  -- over one coupler more: up from a line above the starting line, down to a line that is not above it
+
+  comes-up : (n : ℕ) → (n ≡ 0 → ⊥) → isOn n (mainSides start) ≡ true → Hands st site n 1 (tp1Octets (onLine n) p) (tp1Octets (onLine (mainSide n)) p) → Comes n
+      → Comes (mainSide n)
+  comes-up n h q x c = record { way = over n; arrives = handed-up (c .arrives) (not-up start n (c .way) h (arrived (c .arrives) .last) q) x }
+
+  comes-down : (n : ℕ) → (n ≡ 0 → ⊥) → isOn n (mainSides start) ≡ false → Hands st site n 0 (tp1Octets (onLine (mainSide n)) p) (tp1Octets (onLine n) p) → Comes (mainSide n)
+      → Comes n
+  comes-down n h q x c = record { way = over n; arrives = handed-down (c .arrives) (not-down start n (c .way) h (arrived (c .arrives) .last) q) x }
+
+  climbs : (d n : ℕ) → ((u : ℕ) → distance start u ≡ d → Lists u → Comes u) → distance start (mainSide n) ≡ suc d → Lists (mainSide n) → (n ≡ 0 → ⊥)
+      → isOn n (mainSides start) ≡ true → Comes (mainSide n)
+  climbs d n ih e l h q =
+      let x = lists-step (mainSide n) n n 1 (omega arith) (path-up start n q h) l in
+      comes-up n h q (x .1) (ih n (omega (arith, distance-more start (mainSide n) n (crossing 1 n) (path-up start n q h))) (x .0))
 
   sinks : (d t : ℕ) → ((u : ℕ) → distance start u ≡ d → Lists u → Comes u) → distance start t ≡ suc d → Lists t → isOn t (mainSides start) ≡ false → Comes t
   sinks d t ih e l q =
       let h : t ≡ 0 → ⊥ = λ z. none (on-zero start) (subst (λ (x : ℕ). isOn x (mainSides start) ≡ false) z q) in
       let x = lists-step t (mainSide t) t 0 (omega arith) (path-down start t q) l in
-      let c = ih (mainSide t) (omega (arith, distance-more start t (mainSide t) (crossing 0 t) (path-down start t q))) (x .0) in
-      let b = arrived (c .arrives) in
-      record { way = over t; arrives = handed-down (c .arrives) (not-down start t (c .way) h (b .last) q) (x .1) }
+      comes-down t h q (x .1) (ih (mainSide t) (omega (arith, distance-more start t (mainSide t) (crossing 0 t) (path-down start t q))) (x .0))
+
+  comes-from : (d t : ℕ) → ((u : ℕ) → distance start u ≡ d → Lists u → Comes u) → distance start t ≡ suc d → Lists t → Comes t
+  comes-from d t ih e l =
+      by-cases (isOn t (mainSides start))
+      (λ q.
+          let a = above-of start t q (λ z. omega (arith, ap (distance start) (sym z), distance-same start)) in
+          let f : t ≡ mainSide (a .0) = a .1 .1 .1 in
+          subst Comes (sym f) (climbs d (a .0) ih (ap (distance start) (sym f) ∙ e) (subst Lists f l) (a .1 .0) (a .1 .1 .0)))
+      (sinks d t ih e l)
 
   comes-by : (d t : ℕ) → distance start t ≡ d → Lists t → Comes t
   comes-by zero t e l =
       subst Comes (distance-zero start t e)
       (record { way = put; arrives = subst (λ (o : List ℕ). Arrives st site start (tp1Octets m p) start o put) (sym octets-start) at-start })
-  comes-by (suc d) t e l = by-cases (isOn t (mainSides start)) (climbs d t (λ u. comes-by d u) e l) (sinks d t (λ u. comes-by d u) e l)
+  comes-by (suc d) t e l = comes-from d t (λ u. comes-by d u) e l
 
   -- a line is listed with a count exactly if the first sending, handed on from line to line by the couplers, arrives there with that count
   pub list-is-journey : (t k : ℕ) → ListedWith st site (askedOf start m) t k ↔ ArrivesWith st site start (tp1Octets m p) t k
