@@ -1,7 +1,7 @@
 //! The tracer: a telegram floods a site from line to line. And why it does not reach a line.
 
 use crate::coupler::{lowered, Coupler, Side};
-use crate::refusal::{RANGE, ROOM};
+use crate::refusal::ROOM;
 use crate::site::{below, main_side, Couplers, Site};
 
 /// "13 (room below 768)"
