@@ -109,7 +109,7 @@ fn codes(&[_, _, _, a, b, c, d, e, f, g, h, _]: &Record) -> [[u8; 4]; 2] {
 
 /// "A store is a multiple of 8,192 octets"
 fn is_store(store: &[u8], most: usize) -> bool {
-    store.len() % TABLE_SIZE == 0 && store.len() <= most
+    store.len().is_multiple_of(TABLE_SIZE) && store.len() <= most
 }
 
 /// "Its main side is n with the low four bits cleared if those are not zero, else 00h."
