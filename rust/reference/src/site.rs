@@ -11,6 +11,8 @@ const NO_TABLE: u8 = 0xff;
 /// "at most 128 and 127 tables"
 const MOST_PROJECT: usize = 128 * TABLE_SIZE;
 const MOST_OWN: usize = 127 * TABLE_SIZE;
+/// The place of a record that is not there, since there are at most 255.
+const NOWHERE: u8 = 255;
 
 type Record = [u8; RECORD_SIZE];
 
@@ -27,8 +29,9 @@ pub struct Site<'a> {
 /// The couplers of a well-formed site.
 #[derive(Clone, Debug)]
 pub struct Couplers<'a> {
-    /// By line.
-    records: [Option<&'a Record>; 256],
+    records: &'a [Record],
+    /// By line, the place of its record.
+    places: [u8; 256],
     site: Site<'a>,
 }
 
@@ -42,21 +45,20 @@ impl<'a> Site<'a> {
         let (records, []) = self.records.as_chunks() else {
             return Err(SITE);
         };
-        let mut couplers = Couplers {
-            records: [None; 256],
-            site: self,
-        };
-        for record in records {
+        let mut places = [NOWHERE; 256];
+        for (place, record) in records.iter().enumerate() {
             self.test(record)?;
             let [_, _, line, ..] = *record;
-            if couplers.records[usize::from(line)]
-                .replace(record)
-                .is_some()
-            {
+            if places[usize::from(line)] != NOWHERE {
                 return Err(LINE_TWICE);
             }
+            places[usize::from(line)] = place as u8;
         }
-        Ok(couplers)
+        Ok(Couplers {
+            records,
+            places,
+            site: self,
+        })
     }
 
     /// "16, 15 (line, codes), 18" of one record.
@@ -93,7 +95,8 @@ impl<'a> Site<'a> {
 impl<'a> Couplers<'a> {
     /// The coupler of a line, if one is fitted.
     pub fn fitted(&self, line: u8) -> Option<Coupler<'a>> {
-        let record = self.records[usize::from(line)]?;
+        let place = usize::from(self.places[usize::from(line)]);
+        let record = self.records.get(place)?;
         Some(Coupler {
             line,
             codes: codes(record),

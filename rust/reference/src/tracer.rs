@@ -28,22 +28,12 @@ impl Query {
     }
 }
 
-/// What a coupler is given to hand on.
+/// A telegram on its starting line.
 #[derive(Clone, Copy)]
 struct Telegram {
     group: bool,
     destination: u16,
     count: u8,
-}
-
-impl Telegram {
-    /// As a coupler hands it on that receives it from this side, if it does.
-    fn onward(self, coupler: &Coupler<'_>, from: Side) -> Option<Telegram> {
-        let count = lowered(self.count)?;
-        coupler
-            .may_pass(from, self.group, self.destination)
-            .then_some(Telegram { count, ..self })
-    }
 }
 
 #[derive(Clone, Copy, Debug, PartialEq, Eq)]
@@ -59,7 +49,7 @@ pub fn trace(query: &Query, site: &Site<'_>, room: &mut [u8]) -> Result<Traced, 
     if room.len() < ROOM_SIZE {
         return Err(ROOM);
     }
-    let flood = Flood::from(query.start, telegram, &site.couplers()?);
+    let flood = Flood::of(query.start, &telegram, &site.couplers()?);
     Ok(Traced {
         listed: flood.list(room),
         forwardings: flood.forwardings,
@@ -70,7 +60,7 @@ pub fn trace(query: &Query, site: &Site<'_>, room: &mut [u8]) -> Result<Traced, 
 #[derive(Clone, Copy)]
 struct Arrival {
     line: u8,
-    telegram: Telegram,
+    count: u8,
     crossed: u8,
     /// The coupler by which it came; none on the starting line.
     by: Option<u8>,
@@ -85,10 +75,10 @@ struct Flood {
 }
 
 impl Flood {
-    fn from(start: u8, telegram: Telegram, couplers: &Couplers<'_>) -> Flood {
+    fn of(start: u8, telegram: &Telegram, couplers: &Couplers<'_>) -> Flood {
         let start = Arrival {
             line: start,
-            telegram,
+            count: telegram.count,
             crossed: 0,
             by: None,
         };
@@ -97,32 +87,34 @@ impl Flood {
             arrived: 1,
             forwardings: 0,
         };
+        let passes = |line, from| {
+            let coupler: Option<Coupler<'_>> = couplers.fitted(line);
+            coupler.is_some_and(|it| it.may_pass(from, telegram.group, telegram.destination))
+        };
         let mut handed_on = 0;
         while handed_on < flood.arrived {
             let at = flood.arrivals[handed_on];
             handed_on += 1;
-            flood.cross(&at, at.line, Side::Sub, couplers);
+            if at.by != Some(at.line) && passes(at.line, Side::Sub) {
+                flood.arrive(&at, at.line, main_side(at.line));
+            }
             for line in below(at.line) {
-                flood.cross(&at, line, Side::Main, couplers);
+                if at.by != Some(line) && passes(line, Side::Main) {
+                    flood.arrive(&at, line, line);
+                }
             }
         }
         flood
     }
 
-    /// One coupler at the line of arrival: it hands on to its other side, or not.
-    fn cross(&mut self, at: &Arrival, line: u8, from: Side, couplers: &Couplers<'_>) {
-        if at.by == Some(line) {
-            return;
-        }
-        let Some(coupler) = couplers.fitted(line) else {
-            return;
-        };
-        if let Some(telegram) = at.telegram.onward(&coupler, from) {
+    /// A coupler at the line of an arrival hands on to its other side, if the count allows it.
+    fn arrive(&mut self, at: &Arrival, by: u8, line: u8) {
+        if let Some(count) = lowered(at.count) {
             self.arrivals[self.arrived] = Arrival {
-                line: other_side(line, from),
-                telegram,
+                line,
+                count,
                 crossed: at.crossed + 1,
-                by: Some(line),
+                by: Some(by),
             };
             self.arrived += 1;
             self.forwardings += 1;
@@ -133,14 +125,16 @@ impl Flood {
     fn list(&self, room: &mut [u8]) -> usize {
         let mut by_line = [None; 256];
         for arrival in &self.arrivals[..self.arrived] {
-            let octets = [arrival.line, arrival.telegram.count, arrival.crossed];
+            let octets = [arrival.line, arrival.count, arrival.crossed];
             by_line[usize::from(arrival.line)] = Some(octets);
         }
         let (places, _) = room.as_chunks_mut();
+        let mut listed = 0;
         for (place, octets) in places.iter_mut().zip(by_line.iter().flatten()) {
             *place = *octets;
+            listed += 1;
         }
-        self.arrived
+        listed
     }
 }
 
