@@ -52,11 +52,15 @@ impl Stores {
     /// The number of a table that lies in its store, if there is any.
     fn some_number(&self, generator: &mut Generator) -> Option<u8> {
         let (project, own) = (self.project_tables(), self.own_tables());
-        match generator.below((project + own).max(1) as u64) as usize {
-            _ if project + own == 0 => None,
-            place if place < project => Some(place as u8),
-            place => Some((place - project + MOST_PROJECT) as u8),
+        if project + own == 0 {
+            return None;
         }
+        let place = generator.below((project + own) as u64) as usize;
+        let number = match place.checked_sub(project) {
+            None => place,
+            Some(place) => MOST_PROJECT + place,
+        };
+        Some(number as u8)
     }
 
     fn project_tables(&self) -> usize {
