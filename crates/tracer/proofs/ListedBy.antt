@@ -152,3 +152,7 @@ module _ (st : Stores) (site : List ℕ) (kind count : ℕ) (room : List ℕ) {j
     trace-listed e l =
         let v = judged-fine (firstOf tests) (sym e ∙ j) in
         record { answered = rw v (l .answered); left = rw v (l .left) }
+
+-- two outcomes that the contract allows coincide
+pub traced-one : {st : Stores} {site : List ℕ} {q : Query} {room : List ℕ} {r₁ r₂ : Traced} {a₁ a₂ : List ℕ} → DidTrace st site q room r₁ a₁ → DidTrace st site q room r₂ a₂ → (r₁ ≡ r₂) × (a₁ ≡ a₂)
+traced-one x y = (x .answered ∙ sym (y .answered), x .left ∙ sym (y .left))
