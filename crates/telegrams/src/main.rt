@@ -18,7 +18,8 @@ fn run_row(row: &[u8]) {
         b't' => reads::run_tp1(given),
         b'c' => reads::run_cemi(given),
         b'r' => reads::run_routing(given),
-        _ => steps::run_steps(given, lists::rest(from_octets)),
+        b's' => steps::run_steps(given, lists::rest(from_octets)),
+        _ => {}
     }
     io::write_all(1, b"\n");
 }
