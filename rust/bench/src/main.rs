@@ -8,6 +8,16 @@ mod routing;
 mod tp1;
 
 fn main() {
+    if !measure::is_told() {
+        print_introduction();
+    }
+    tp1::rows();
+    cemi::rows();
+    routing::rows();
+    coupler::rows();
+}
+
+fn print_introduction() {
     println!("Proved library beside the reference in Rust, both built for release.");
     println!("Both are real calls: the library's through its C surface, the reference's through");
     println!("functions that are never inlined. Batches alternate between the two; a time is the");
@@ -30,8 +40,4 @@ fn main() {
     }
     println!();
     measure::print_heading();
-    tp1::rows();
-    cemi::rows();
-    routing::rows();
-    coupler::rows();
 }
