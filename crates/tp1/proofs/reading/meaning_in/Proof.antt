@@ -1,19 +1,33 @@
--- Each arm settles the format; the fields are the octets that its layout names.
-use mathlib.Core.Path.{sym, _∙_}
+-- The octets that the format's layout names, by where they stand.
+use Prim.Native.Nat.{ℕ, _+_}
+use mathlib.Core.Bool.{Bool, true, false, cond}
+use mathlib.Core.List.{List}
+use mathlib.Core.Path.{_≡_, refl}
+use native.Mathlib.Omega.{arith}
 use borrow.Author.Needs.{needs}
-use Rattle.tp1.specs.Reading.{meaningIn}
+use Rattle.octets.specs.Octets.{octetAt}
+use Rattle.octets.specs.Word.{wordAt}
+use Rattle.frame.specs.Fields.{meaningOf, fieldsMeaning}
+use Rattle.tp1.specs.Reading.{isExtended, meaningIn}
 use Rattle.tp1.proofs.reading.meaning_in.Statement.{statement}
 use Rattle.tp1.proofs.reading.meaning_in.Tie as tie
+
+placed : (s : List ℕ) (b : Bool)
+    → meaningOf (octetAt s 0) (octetAt s (cond b 1 5)) (wordAt s (cond b 2 1)) (wordAt s (cond b 2 1 + 2))
+    ≡ cond b (fieldsMeaning s) (meaningOf (octetAt s 0) (octetAt s 5) (wordAt s 1) (wordAt s 3))
+unfolding fieldsMeaning
+placed s true = refl
+placed s false = refl
+
+add-word-at : tie.Need-add-word-at
+add-word-at c =
+    omega (arith, c .before .addresses-at .ensures .1)
 
 returns : tie.Need-returns
 unfolding meaningIn
 returns c =
-    rw (sym (c .before .before .is-extended .ensures) ∙ c .before .if1 .taken) (c .fields-meaning .ensures)
-
-returns-2 : tie.Need-returns-2
-unfolding meaningIn
-returns-2 c =
-    rw (sym (c .before .before .before .before .before .before .is-extended .ensures) ∙ c .before .before .before .before .before .if1 .left, ← c .before .before .before .before .word-at .ensures, ← c .before .before .before .word-at2 .ensures, ← c .before .before .octet .ensures, ← c .before .octet2 .ensures) (c .meaning-of .ensures)
+    let s = c .before .before .before .before .before .before .before .before .before .args .octets .now in
+    rw (c .meaning-of .ensures, c .before .octet2 .ensures, c .before .before .ctrle-at .ensures, c .before .before .before .octet .ensures, c .before .before .before .before .word-at2 .ensures, c .before .before .before .before .before .word-at .ensures, c .before .before .before .before .before .before .addresses-at .ensures .0, c .before .before .before .before .before .before .before .is-extended .ensures) (placed s (isExtended s))
 
 pub meaning-in-spec : {M : Type 1} → statement M
 meaning-in-spec =
@@ -22,9 +36,10 @@ meaning-in-spec =
     (λ c κs. search needs)
     (λ c κs. search needs)
     (λ c κs. search needs)
+    add-word-at
     (λ c κs. search needs)
     (λ c κs. search needs)
     (λ c κs. search needs)
     (λ c κs. search needs)
-    returns
-    returns-2)
+    (λ c κs. search needs)
+    returns)
