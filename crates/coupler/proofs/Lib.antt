@@ -1,2 +1,3 @@
 pub mod StepLaws
+mod HearingLaws
 pub mod Promised
