@@ -6,6 +6,7 @@ ghost use lib.ListN.{length};
 ghost use Rattle.octets.specs.Room.{over};
 ghost use Rattle.frame.specs.Order.{firstOf};
 ghost use Rattle.frame.specs.Valid.{inRange};
+ghost use Rattle.routing.specs.Reading.{readRouting};
 ghost use Rattle.coupler.specs.Memory.{isRepetition};
 ghost use Rattle.coupler.specs.Hearing.{meaningOnly, answerOn, payloadOn};
 ghost use Rattle.coupler.specs.Step.{settingOf, settingTests, judgedBy, fromIp, readBy, isAllowed, acknowledgementBy, forwardedMeaning, formOf, putSize, Sent, refusedOutcome, PassedOn, HandedOn};
@@ -13,11 +14,15 @@ use crate::Acknowledgement;
 use crate::Judged;
 use crate::Outcome;
 use cemi::CemiAnswer;
+use cemi::Codes;
 use cemi::Message;
 use frame::Meaning;
 use frame::Refusal;
 use frame::Written;
+use routing::Header;
 use tp1::Tp1Answer;
+
+const ROUTING_INDICATION: u16 = 0x0530;
 
 pub(crate) fn refused(refusal: Refusal) -> Outcome
     ensures { λ r. ⌜ r ≡ refusedOutcome refusal ⌝ }
@@ -193,12 +198,24 @@ fn meaning_only(answer: CemiAnswer) -> Tp1Answer
     }
 }
 
+// The two calls of `routing::read`: as a third function between them it is too long for the compiler
+// to put in place, and each datagram costs a half more.
+fn hear_datagram(octets: &[u8]) -> Tp1Answer
+    ensures { λ r. ⌜ r ≡ meaningOnly (readRouting (now (octets .entry))) ⌝ }
+{
+    let header = routing::read_header(octets, ROUTING_INDICATION);
+    match header {
+        Header::Wrong(refusal) => Tp1Answer::Refused(refusal),
+        Header::Right => meaning_only(cemi::read(Codes::IndicationOnly, &octets[6..])),
+    }
+}
+
 // What a frame means, or the reader's refusal, whichever medium it came by.
 fn hear(ip: bool, octets: &[u8]) -> Tp1Answer
     ensures { λ r. ⌜ r ≡ answerOn ip (now (octets .entry)) ⌝ }
 {
     if ip {
-        meaning_only(routing::read(octets))
+        hear_datagram(octets)
     } else {
         tp1::read(octets)
     }
