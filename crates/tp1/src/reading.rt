@@ -42,11 +42,8 @@ fn is_other_format(octets: &[u8]) -> bool
 fn is_escape(octets: &[u8]) -> bool
     ensures { λ r. ⌜ r ≡ isEscape (now (octets .entry)) ⌝ }
 {
-    if is_extended(octets) {
-        octets::octet(octets, 6) == 255
-    } else {
-        false
-    }
+    let escape = octets::octet(octets, 6) == 255;
+    if is_extended(octets) { escape } else { false }
 }
 
 // 8 + LG or 9 + LG.

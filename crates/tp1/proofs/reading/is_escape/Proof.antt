@@ -8,7 +8,7 @@ use Rattle.tp1.proofs.reading.is_escape.Tie as tie
 returns : tie.Need-returns
 unfolding isEscape
 returns c =
-    rw (sym (c .before .before .is-extended .ensures) ∙ c .before .if1 .taken, c .octet .ensures)
+    rw (sym (c .before .is-extended .ensures) ∙ c .if1 .taken, c .before .before .octet .ensures)
 
 returns-2 : tie.Need-returns-2
 unfolding isEscape
