@@ -83,15 +83,13 @@ pub(crate) fn meaning_in(octets: &[u8]) -> Meaning
     ensures { λ r. ⌜ r ≡ meaningIn (now (octets .entry)) ⌝ }
 {
     let extended = is_extended(octets);
+    let at = ctrle_at(extended);
     let start = addresses_at(extended);
+    let control = octets::octet(octets, 0);
+    let ctrle = octets::octet(octets, at);
     let source = octets::word_at(octets, start);
     let destination = octets::word_at(octets, start + 2);
-    frame::meaning_of(
-        octets::octet(octets, 0),
-        octets::octet(octets, ctrle_at(extended)),
-        source,
-        destination,
-    )
+    frame::meaning_of(control, ctrle, source, destination)
 }
 
 // From the sixth test of the order on.

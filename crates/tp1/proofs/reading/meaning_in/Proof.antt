@@ -2,11 +2,12 @@
 use Prim.Native.Nat.{ℕ, _+_}
 use mathlib.Core.Bool.{Bool, true, false, cond}
 use mathlib.Core.List.{List}
-use mathlib.Core.Path.{_≡_, refl}
+use mathlib.Core.Path.{_≡_, refl, _∙_}
 use native.Mathlib.Omega.{arith}
 use borrow.Author.Needs.{needs}
 use Rattle.octets.specs.Octets.{octetAt}
 use Rattle.octets.specs.Word.{wordAt}
+use Rattle.frame.specs.declared.Meaning.{Meaning}
 use Rattle.frame.specs.Fields.{meaningOf, fieldsMeaning}
 use Rattle.tp1.specs.Reading.{isExtended, meaningIn}
 use Rattle.tp1.proofs.reading.meaning_in.Statement.{statement}
@@ -19,15 +20,21 @@ unfolding fieldsMeaning
 placed s true = refl
 placed s false = refl
 
+-- the meaning of octets that were looked at where the format has them
+looked-at : (s : List ℕ) (b : Bool) (at start control ctrle source destination : ℕ) (m : Meaning)
+    → b ≡ isExtended s → at ≡ cond b 1 5 → start ≡ cond b 2 1 → control ≡ octetAt s 0 → ctrle ≡ octetAt s at
+    → source ≡ wordAt s start → destination ≡ wordAt s (start + 2) → m ≡ meaningOf control ctrle source destination
+    → m ≡ meaningIn s
+unfolding meaningIn
+looked-at s b at start control ctrle source destination m e a p o x f t z = z ∙ rw (o, x, f, t, a, p, e) (placed s (isExtended s))
+
 add-word-at : tie.Need-add-word-at
 add-word-at c =
-    omega (arith, c .before .addresses-at .ensures .1)
+    omega (arith, c .before .before .before .addresses-at .ensures .1)
 
 returns : tie.Need-returns
-unfolding meaningIn
 returns c =
-    let s = c .before .before .before .before .before .before .before .before .before .args .octets .now in
-    rw (c .meaning-of .ensures, c .before .octet2 .ensures, c .before .before .ctrle-at .ensures, c .before .before .before .octet .ensures, c .before .before .before .before .word-at2 .ensures, c .before .before .before .before .before .word-at .ensures, c .before .before .before .before .before .before .addresses-at .ensures .0, c .before .before .before .before .before .before .before .is-extended .ensures) (placed s (isExtended s))
+    looked-at (c .before .before .before .before .before .before .before .before .before .args .octets .now) _ _ _ _ _ _ _ _ (c .before .before .before .before .before .before .before .is-extended .ensures) (c .before .before .before .before .before .before .ctrle-at .ensures) (c .before .before .before .before .before .addresses-at .ensures .0) (c .before .before .before .before .octet .ensures) (c .before .before .before .octet2 .ensures) (c .before .before .word-at .ensures) (c .before .word-at2 .ensures) (c .meaning-of .ensures)
 
 pub meaning-in-spec : {M : Type 1} → statement M
 meaning-in-spec =
@@ -36,10 +43,10 @@ meaning-in-spec =
     (λ c κs. search needs)
     (λ c κs. search needs)
     (λ c κs. search needs)
+    (λ c κs. search needs)
+    (λ c κs. search needs)
+    (λ c κs. search needs)
     add-word-at
-    (λ c κs. search needs)
-    (λ c κs. search needs)
-    (λ c κs. search needs)
     (λ c κs. search needs)
     (λ c κs. search needs)
     returns)
