@@ -72,19 +72,13 @@ fn ctrle_at(extended: bool) -> usize
     if extended { 1 } else { 5 }
 }
 
-// Where the two addresses stand.
-fn addresses_at(extended: bool) -> usize
-    ensures { λ r. ⌜ (r ≡ cond extended 2 1) × (r ≤ 2) ⌝ }
-{
-    if extended { 2 } else { 1 }
-}
-
 pub(crate) fn meaning_in(octets: &[u8]) -> Meaning
     ensures { λ r. ⌜ r ≡ meaningIn (now (octets .entry)) ⌝ }
 {
     let extended = is_extended(octets);
     let at = ctrle_at(extended);
-    let start = addresses_at(extended);
+    let head = head_of(extended);
+    let start = head - 5;
     let control = octets::octet(octets, 0);
     let ctrle = octets::octet(octets, at);
     let source = octets::word_at(octets, start);

@@ -7,10 +7,16 @@ use std::time::{Duration, Instant};
 
 const BATCHES: usize = 201;
 const BATCH: Duration = Duration::from_micros(200);
+const MOVED: &str = "moved";
 
 /// Whether the program was told to name its rows, or to call one of them, and not to time them.
 pub fn is_told() -> bool {
-    env::args().len() > 1
+    env::args().nth(1).is_some_and(|word| word != MOVED)
+}
+
+/// Whether each answer is moved once more after the call, as by a caller who keeps it elsewhere.
+fn is_moved() -> bool {
+    env::args().nth(1).is_some_and(|word| word == MOVED)
 }
 
 pub fn print_heading() {
@@ -53,7 +59,15 @@ fn number(word: &str) -> u32 {
     word.parse().expect("a number of calls")
 }
 
+/// An answer is looked at where the call left it. Moving it costs an answer in memory more than a
+/// number, and is no part of the call.
 fn repeat<T>(calls: u32, call: &mut impl FnMut() -> T) {
+    for _ in 0..calls {
+        black_box(&call());
+    }
+}
+
+fn repeat_and_move<T>(calls: u32, call: &mut impl FnMut() -> T) {
     for _ in 0..calls {
         black_box(call());
     }
@@ -69,8 +83,13 @@ fn calls_in_a_batch<T>(call: &mut impl FnMut() -> T) -> u32 {
 
 /// Nanoseconds for one call.
 fn time<T>(calls: u32, call: &mut impl FnMut() -> T) -> f64 {
+    let moved = is_moved();
     let start = Instant::now();
-    repeat(calls, call);
+    if moved {
+        repeat_and_move(calls, call);
+    } else {
+        repeat(calls, call);
+    }
     start.elapsed().as_nanos() as f64 / f64::from(calls)
 }
 
