@@ -34,9 +34,13 @@ fn print_introduction() {
     match klumdray::LINKED {
         "staticlib" => {}
         "native" => {
-            println!("This machine is not x86-64: the library's own LLVM module was compiled for it.");
+            println!(
+                "This machine is not x86-64: the library's own LLVM module was compiled for it."
+            );
         }
-        _ => println!("NOT A MEASUREMENT: the library's code is for x86-64 and runs emulated here."),
+        _ => {
+            println!("NOT A MEASUREMENT: the library's code is for x86-64 and runs emulated here.")
+        }
     }
     println!();
     measure::print_heading();
