@@ -198,8 +198,8 @@ fn meaning_only(answer: CemiAnswer) -> Tp1Answer
     }
 }
 
-// The two calls of `routing::read`: as a third function between them it is too long for the compiler
-// to put in place, and each datagram costs a half more.
+// The two calls that `routing::read` makes. As one call it is too long for the compiler to put in
+// place, and a step from IP takes a third more instructions.
 fn hear_datagram(octets: &[u8]) -> Tp1Answer
     ensures { λ r. ⌜ r ≡ meaningOnly (readRouting (now (octets .entry))) ⌝ }
 {
