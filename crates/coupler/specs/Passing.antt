@@ -1,9 +1,11 @@
 -- Who may pass: the one place that knows about codes. The step asks it of a frame, the tracer of a query.
 use Prim.Native.Nat.{ℕ, _-_, _*_, _/_, _%_, _^_}
-use mathlib.Core.List.{List}
-use mathlib.Core.Bool.{Bool, cond, not, _&&_, _||_}
+use mathlib.Core.List.{List, [], _∷_}
+use mathlib.Core.Bool.{Bool, true, false, cond, not, _&&_, _||_}
 use lib.Dec.{ltb, eqb}
 use Rattle.octets.specs.Octets.{octetAt}
+use Rattle.coupler.specs.declared.Passage.{Passage}
+use Rattle.coupler.specs.declared.Passage.the-variants.{Passes, NotFitted, OwnAddress, Closed, NotInTable, NotBelow, NotAbove, UsedUp}
 use Rattle.coupler.specs.Settings.{codeIn, classOf}
 
 -- "whose own address is n followed by 00h"; "A frame with AT 0 to the coupler's own address is for itself"
@@ -39,3 +41,39 @@ mayPass line codes table direction group destination =
 -- the hop rule: 0 stops, 1 to 6 drop by one, 7 stays
 abbrev pub hopped : ℕ → ℕ
 hopped count = cond (eqb count 7) 7 (count - 1)
+
+-- what code 1 misses: the address in its table, below it, above it
+unfoldable pub ruledOut : ℕ → Bool → Passage
+ruledOut direction group = cond group NotInTable (cond (eqb direction 0) NotBelow NotAbove)
+
+infix 70 _because_
+-- a reason not to hand a telegram on, where it is true
+pub data Cause : Type 0 where
+  _because_ : Bool → Passage → Cause
+
+-- the first that is true
+abbrev pub firstCause : List Cause → Passage
+firstCause [] = Passes
+firstCause (b because p ∷ cs) = cond b p (firstCause cs)
+
+abbrev pub causes : ℕ → List (List ℕ) → List ℕ → ℕ → Bool → ℕ → ℕ → List Cause
+causes line codes table direction group destination count =
+    let code = codeIn codes direction (classOf group destination) in
+    isOwn line group destination because OwnAddress
+    ∷ not (eqb code 1 || eqb code 2) because Closed
+    ∷ (eqb code 1 && not (isRuled line table direction group destination)) because ruledOut direction group
+    ∷ eqb count 0 because UsedUp
+    ∷ []
+
+unfoldable pub passageOf : ℕ → List (List ℕ) → List ℕ → ℕ → Bool → ℕ → ℕ → Passage
+passageOf line codes table direction group destination count = firstCause (causes line codes table direction group destination count)
+
+abbrev pub doesPass : Passage → Bool
+doesPass Passes = true
+doesPass NotFitted = false
+doesPass OwnAddress = false
+doesPass Closed = false
+doesPass NotBelow = false
+doesPass NotAbove = false
+doesPass NotInTable = false
+doesPass UsedUp = false

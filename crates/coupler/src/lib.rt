@@ -6,7 +6,7 @@ pub mod settings;
 
 ghost use mathlib.Core.Path.{_≡_};
 ghost use lib.ListN.{length};
-ghost use Rattle.coupler.specs.Passing.{mayPass, hopped};
+ghost use Rattle.coupler.specs.Passing.{mayPass, passageOf, hopped};
 ghost use Rattle.coupler.specs.Memory.{noMemory};
 ghost use Rattle.coupler.specs.Step.{settingOf, heard, HandedOn, Did};
 use frame::Refusal;
@@ -23,6 +23,18 @@ pub struct Outcome {
     pub acknowledgement: Acknowledgement,
     pub own: bool,
     pub forwarded: usize,
+}
+
+// What a coupler makes of a telegram: it lets it pass, or the first reason why not.
+pub enum Passage {
+    Passes,
+    NotFitted,
+    OwnAddress,
+    Closed,
+    NotBelow,
+    NotAbove,
+    NotInTable,
+    UsedUp,
 }
 
 // What settings, side, medium and room are found to be.
@@ -63,6 +75,39 @@ pub fn may_pass(
     let own = passing::is_own(line, group, destination);
     let ruled = passing::is_ruled(line, table, direction, group, destination);
     !own & ((code == 2) | ((code == 1) & ruled))
+}
+
+// What a coupler makes of a telegram to this address that comes to it with this count.
+pub fn why_not(
+    line: u8,
+    codes: [[u8; 4]; 2],
+    table: &[u8],
+    direction: u8,
+    group: bool,
+    destination: u16,
+    count: u8,
+) -> Passage
+    ensures { λ r. ⌜ r ≡ passageOf line codes (now (table .entry)) direction group destination count ⌝ }
+{
+    let code = settings::code_in(codes, direction, passing::class_of(group, destination));
+    if passing::is_own(line, group, destination) {
+        return Passage::OwnAddress;
+    }
+    let named = (code == 1) | (code == 2);
+    if named {
+        let ruled = passing::is_ruled(line, table, direction, group, destination);
+        let ruled_out = (code == 1) & !ruled;
+        if ruled_out {
+            return passing::ruled_out(direction, group);
+        }
+        if count == 0 {
+            Passage::UsedUp
+        } else {
+            Passage::Passes
+        }
+    } else {
+        Passage::Closed
+    }
 }
 
 // The count with which a frame is forwarded.

@@ -2,7 +2,8 @@
 ghost use mathlib.Core.Path.{_≡_};
 ghost use Prim.Native.Nat.{_<_};
 ghost use Rattle.coupler.specs.Settings.{classOf};
-ghost use Rattle.coupler.specs.Passing.{isOwn, isListed, isBelow, isRuled};
+ghost use Rattle.coupler.specs.Passing.{isOwn, isListed, isBelow, isRuled, ruledOut};
+use crate::Passage;
 
 pub(crate) fn class_of(group: bool, destination: u16) -> usize
     ensures { λ r. ⌜ (r ≡ classOf group destination) × (r < 4) ⌝ }
@@ -49,4 +50,18 @@ pub(crate) fn is_ruled(line: u8, table: &[u8], direction: u8, group: bool, desti
     }
     let below = is_below(line, destination);
     if direction == 0 { below } else { !below }
+}
+
+// Which of the reasons of code 1 it is.
+pub(crate) fn ruled_out(direction: u8, group: bool) -> Passage
+    ensures { λ r. ⌜ r ≡ ruledOut direction group ⌝ }
+{
+    if group {
+        return Passage::NotInTable;
+    }
+    if direction == 0 {
+        Passage::NotBelow
+    } else {
+        Passage::NotAbove
+    }
 }

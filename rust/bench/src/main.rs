@@ -6,6 +6,7 @@ mod inputs;
 mod measure;
 mod routing;
 mod tp1;
+mod tracer;
 
 fn main() {
     if !measure::is_told() {
@@ -15,6 +16,7 @@ fn main() {
     cemi::rows();
     routing::rows();
     coupler::rows();
+    tracer::rows();
 }
 
 fn print_introduction() {
@@ -30,7 +32,10 @@ fn print_introduction() {
     println!(
         "parts goes through the bindings. From one medium to another is a coupler step with a"
     );
-    println!("filter table; its size is the frame's on TP1.");
+    println!(
+        "filter table; its size is the frame's on TP1. Trace and why are of a site with all 255"
+    );
+    println!("couplers and 32 filter tables; the reference floods it from line to line.");
     match klumdray::LINKED {
         "staticlib" => {}
         "native" => {

@@ -1,0 +1,4 @@
+pub mod RecordLaws
+pub mod Judging
+pub mod LettingLaws
+pub mod Refusals

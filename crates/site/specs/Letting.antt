@@ -1,0 +1,36 @@
+-- Demand 3: a coupler "is fitted and lets the telegram pass in its direction of travel". Who may pass is the coupler's own definition.
+use Prim.Native.Nat.{ℕ, _<_}
+use mathlib.Core.Bool.{Bool, false, cond, _&&_}
+use mathlib.Core.List.{List}
+use mathlib.Core.Path.{_≡_}
+use lib.ListN.{length, getD}
+use Rattle.coupler.specs.Passing.{mayPass, passageOf}
+use Rattle.coupler.specs.declared.Passage.the-variants.{NotFitted}
+use Rattle.coupler.specs.declared.Passage.{Passage}
+use Rattle.site.specs.Records.{lineOf, codesOf, tableNumber, couplerOf, isFitted}
+use Rattle.site.specs.Stores.{Stores, tableOf}
+
+-- a record's coupler, asked with its line, codes and table
+unfoldable pub passes : Stores → Bool → ℕ → ℕ → List ℕ → Bool
+passes st group destination direction r =
+    mayPass (lineOf r) (codesOf r) (tableOf (tableNumber r) st) direction group destination
+
+abbrev pub letsBy : Stores → Bool → ℕ → ℕ → List ℕ → Bool
+letsBy st group destination direction r = isFitted r && passes st group destination direction r
+
+-- whether the coupler of a line is fitted and lets the telegram pass
+unfoldable pub lets : Stores → Bool → ℕ → List (List ℕ) → ℕ → ℕ → Bool
+lets st group destination records direction line = letsBy st group destination direction (couplerOf line records)
+
+-- a mark for each of the 256 lines
+pub record Marks (holds : ℕ → Bool) (marks : List Bool) : Type 0 where
+  pub size : length marks ≡ 256
+  pub each : (line : ℕ) → line < 256 → getD marks line false ≡ holds line
+
+-- what the coupler of a line makes of a telegram with this count: the first reason not to hand it on, "no coupler fitted" before all others
+unfoldable pub passageBy : Stores → Bool → ℕ → ℕ → ℕ → List ℕ → Passage
+passageBy st group destination direction count r =
+    cond (isFitted r) (passageOf (lineOf r) (codesOf r) (tableOf (tableNumber r) st) direction group destination count) NotFitted
+
+unfoldable pub passageAt : Stores → Bool → ℕ → List (List ℕ) → ℕ → ℕ → ℕ → Passage
+passageAt st group destination records direction line count = passageBy st group destination direction count (couplerOf line records)

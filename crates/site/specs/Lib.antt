@@ -1,0 +1,4 @@
+pub mod Records
+pub mod Stores
+pub mod WellFormed
+pub mod Letting

@@ -1,0 +1,155 @@
+// Sites: the records of the couplers that are fitted, their filter tables in two lent stores, which
+// sites are well-formed, and whom each coupler lets pass.
+mod records;
+pub mod stores;
+
+ghost use mathlib.Core.Path.{_≡_};
+ghost use mathlib.Core.List.{[]};
+ghost use Rattle.frame.specs.Order.{firstOf};
+ghost use Rattle.coupler.specs.Step.{judgedBy};
+ghost use Rattle.site.specs.Stores.{stores};
+ghost use Rattle.site.specs.Records.{recordsOf};
+ghost use Rattle.site.specs.WellFormed.{hasTable, recordTests, recordsTests, siteTests};
+ghost use Rattle.site.specs.Letting.{passes, lets, Marks, passageAt};
+use coupler::Judged;
+use coupler::Passage;
+use frame::Refusal;
+
+// "FFh is allowed where no group code of that record is 1; every other number must lie in its store."
+fn has_table<'a>(octets: &[u8], project: &'a [u8], own: &'a [u8]) -> bool
+    ensures { λ r. ⌜ r ≡ hasTable (stores (now (project .entry)) (now (own .entry))) (now (octets .entry)) ⌝ }
+{
+    let number = records::table_number(octets);
+    if number == 0xff {
+        let asks = coupler::settings::asks_table(records::codes_of(octets));
+        !asks
+    } else {
+        let table = stores::table_of(number, project, own);
+        table.len() == 8192
+    }
+}
+
+fn judge_record<'a>(octets: &[u8], project: &'a [u8], own: &'a [u8], twice: bool) -> Judged
+    ensures { λ r. ⌜ r ≡ judgedBy (firstOf (recordTests (stores (now (project .entry)) (now (own .entry))) twice (now (octets .entry)))) ⌝ }
+{
+    if records::is_marked(octets) {
+        let allowed = coupler::settings::are_codes(records::codes_of(octets));
+        let wrong = (records::line_of(octets) == 0) | !allowed;
+        if wrong {
+            return Judged::Refused(Refusal::WrongSetting);
+        }
+        if has_table(octets, project, own) {
+            if twice {
+                return Judged::Refused(Refusal::LineTwice);
+            }
+            Judged::Fine
+        } else {
+            Judged::Refused(Refusal::NoTable)
+        }
+    } else {
+        Judged::Refused(Refusal::WrongRecord)
+    }
+}
+
+// "then record by record: 16, 15 (line, codes), 18, 17 (at the second)"
+fn judge_records<'a>(site: &[u8], project: &'a [u8], own: &'a [u8]) -> Judged
+    ensures { λ r. ⌜ r ≡ judgedBy (firstOf (recordsTests (stores (now (project .entry)) (now (own .entry))) [] (recordsOf (now (site .entry))))) ⌝ }
+{
+    let mut seen = [false; 256];
+    let mut from = 0;
+    while site.len() - from >= 12 {
+        let octets = records::record_at(site, from);
+        let line = records::line_of(octets) as usize;
+        let judged = judge_record(octets, project, own, seen[line]);
+        let Judged::Fine = judged else {
+            return judged;
+        };
+        seen[line] = true;
+        from += 12;
+    }
+    Judged::Fine
+}
+
+// Whether a site and its stores are well-formed, or the first refusal of document 01's order.
+pub fn judge<'a>(site: &[u8], project: &'a [u8], own: &'a [u8]) -> Judged
+    ensures { λ r. ⌜ r ≡ judgedBy (firstOf (siteTests (stores (now (project .entry)) (now (own .entry))) (now (site .entry)))) ⌝ }
+{
+    if stores::are_stores(project, own) {
+        if site.len() % 12 == 0 {
+            judge_records(site, project, own)
+        } else {
+            Judged::Refused(Refusal::WrongRecord)
+        }
+    } else {
+        Judged::Refused(Refusal::NoTable)
+    }
+}
+
+fn lets_pass<'a>(
+    octets: &[u8],
+    project: &'a [u8],
+    own: &'a [u8],
+    direction: u8,
+    group: bool,
+    destination: u16,
+) -> bool
+    ensures { λ r. ⌜ r ≡ passes (stores (now (project .entry)) (now (own .entry))) group destination direction (now (octets .entry)) ⌝ }
+{
+    let line = records::line_of(octets);
+    let codes = records::codes_of(octets);
+    let table = stores::table_of(records::table_number(octets), project, own);
+    coupler::may_pass(line, codes, table, direction, group, destination)
+}
+
+// For every line whether its coupler is fitted and lets the telegram pass in this direction (0 main
+// to sub, 1 sub to main): each coupler is asked once.
+pub fn letting<'a>(
+    site: &[u8],
+    project: &'a [u8],
+    own: &'a [u8],
+    direction: u8,
+    group: bool,
+    destination: u16,
+) -> [bool; 256]
+    ensures { λ r. ⌜ Marks (lets (stores (now (project .entry)) (now (own .entry))) group destination (recordsOf (now (site .entry))) direction) r ⌝ }
+{
+    let mut marks = [false; 256];
+    let mut from = 0;
+    while site.len() - from >= 12 {
+        let octets = records::record_at(site, from);
+        let line = records::line_of(octets) as usize;
+        marks[line] = lets_pass(octets, project, own, direction, group, destination);
+        from += 12;
+    }
+    marks
+}
+
+// What the coupler of a line makes of a telegram that comes to it with this count.
+pub fn why_not<'a>(
+    site: &[u8],
+    project: &'a [u8],
+    own: &'a [u8],
+    line: u8,
+    direction: u8,
+    group: bool,
+    destination: u16,
+    count: u8,
+) -> Passage
+    ensures { λ r. ⌜ r ≡ passageAt (stores (now (project .entry)) (now (own .entry))) group destination (recordsOf (now (site .entry))) direction line count ⌝ }
+{
+    let octets = records::coupler_of(site, line);
+    if octets.len() == 0 {
+        return Passage::NotFitted;
+    }
+    let codes = records::codes_of(octets);
+    let table = stores::table_of(records::table_number(octets), project, own);
+    coupler::why_not(
+        records::line_of(octets),
+        codes,
+        table,
+        direction,
+        group,
+        destination,
+        count,
+    )
+}

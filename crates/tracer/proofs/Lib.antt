@@ -1,0 +1,11 @@
+pub mod Paths
+pub mod ReachingLaws
+pub mod RoomLaws
+pub mod WalkingLaws
+pub mod Explained
+pub mod ListLaws
+pub mod ListedBy
+pub mod Fitted
+pub mod Handing
+pub mod Journey
+pub mod Refusals

@@ -1,0 +1,6 @@
+pub mod Lines
+pub mod Listing
+pub mod Tracing
+pub mod Reaching
+pub mod Why
+pub mod Journey

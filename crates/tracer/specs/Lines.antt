@@ -1,0 +1,61 @@
+-- Document 01: "The path between two lines follows main sides: the line of n, then its main side, and so on to 00h, likewise from the other,
+-- joined at the first line in common. Distance is the number of couplers on it".
+use Prim.Native.Nat.{ℕ, zero, suc, _-_, _%_}
+use mathlib.Core.Bool.{Bool, false, cond, _||_}
+use mathlib.Core.List.{List, [], _∷_, _++_}
+use lib.Dec.{eqb}
+use lib.ListN.{length}
+
+-- "Its main side is n with the low four bits cleared if those are not zero, else 00h."
+unfoldable pub mainSide : ℕ → ℕ
+mainSide n = cond (eqb (n % 16) 0) 0 (n - n % 16)
+
+-- how many main sides lie between a line and 00h
+unfoldable pub depth : ℕ → ℕ
+depth n = cond (eqb n 0) 0 (cond (eqb (mainSide n) 0) 1 2)
+
+-- "the line of n, then its main side, and so on to 00h"
+abbrev pub mainSidesBy : ℕ → ℕ → List ℕ
+mainSidesBy zero n = n ∷ []
+mainSidesBy (suc k) n = n ∷ mainSidesBy k (mainSide n)
+
+unfoldable pub mainSides : ℕ → List ℕ
+mainSides n = mainSidesBy (depth n) n
+
+abbrev pub isOn : ℕ → List ℕ → Bool
+isOn n [] = false
+isOn n (m ∷ ms) = eqb m n || isOn n ms
+
+-- "joined at the first line in common": the lines before it
+abbrev pub before : List ℕ → List ℕ → List ℕ
+before [] others = []
+before (n ∷ ns) others = cond (isOn n others) [] (n ∷ before ns others)
+
+-- a coupler crossed: its line, and the direction of travel (0 main to sub, 1 sub to main)
+pub record Crossing : Type 0 where
+  pub direction : ℕ
+  pub line : ℕ
+
+abbrev pub crossing : ℕ → ℕ → Crossing
+crossing direction line = record { direction = direction; line = line }
+
+abbrev pub up : ℕ → Crossing
+up n = crossing 1 n
+
+abbrev pub down : ℕ → Crossing
+down n = crossing 0 n
+
+-- up over the couplers of these lines, one after the other; down over them, the last one first
+abbrev pub upOver : List ℕ → List Crossing
+upOver [] = []
+upOver (n ∷ ns) = up n ∷ upOver ns
+
+abbrev pub downOver : List ℕ → List Crossing
+downOver [] = []
+downOver (n ∷ ns) = downOver ns ++ (down n ∷ [])
+
+unfoldable pub path : ℕ → ℕ → List Crossing
+path start line = upOver (before (mainSides start) (mainSides line)) ++ downOver (before (mainSides line) (mainSides start))
+
+unfoldable pub distance : ℕ → ℕ → ℕ
+distance start line = length (path start line)

@@ -1,0 +1,67 @@
+-- Demand 3: a line is listed exactly if every coupler on the path from the starting line to it is fitted and lets the telegram pass in its
+-- direction of travel, and the count c is 7 or the distance d at most c; in rising order, each once.
+use Prim.Native.Nat.{ℕ, zero, suc, _+_, _-_}
+use mathlib.Core.Bool.{Bool, true, cond, _&&_, _||_}
+use mathlib.Core.List.{List, [], _∷_, _++_}
+use lib.Dec.{ltb, leb, eqb}
+use Rattle.site.specs.Letting.{lets}
+use Rattle.site.specs.Records.{recordsOf}
+use Rattle.site.specs.Stores.{Stores}
+use Rattle.tracer.specs.Lines.{Crossing, path, distance}
+
+-- what a planner asks; "kind (0 individual, 1 group)"
+pub record Query : Type 0 where
+  pub start : ℕ
+  pub kind : ℕ
+  pub destination : ℕ
+  pub count : ℕ
+
+abbrev pub queryOf : ℕ → ℕ → ℕ → ℕ → Query
+queryOf start kind destination count = record { start = start; kind = kind; destination = destination; count = count }
+
+-- whether a site's coupler is fitted and lets the telegram pass in this direction of travel
+abbrev pub letsPass : Stores → List ℕ → Query → Crossing → Bool
+letsPass st site q x = lets st (eqb (q .kind) 1) (q .destination) (recordsOf site) (x .direction) (x .line)
+
+abbrev pub allPass : (Crossing → Bool) → List Crossing → Bool
+allPass f [] = true
+allPass f (x ∷ xs) = f x && allPass f xs
+
+-- "c is 7 or d at most c"
+unfoldable pub lasts : ℕ → ℕ → Bool
+lasts count crossed = eqb count 7 || leb crossed count
+
+unfoldable pub isListed : (Crossing → Bool) → ℕ → ℕ → ℕ → Bool
+isListed f start count line = allPass f (path start line) && lasts count (distance start line)
+
+-- "count on arrival (7, or c minus d)"
+unfoldable pub onArrival : ℕ → ℕ → ℕ
+onArrival count crossed = cond (eqb count 7) 7 (count - crossed)
+
+-- "Each listed line takes three octets: line, count on arrival (7, or c minus d), couplers crossed."
+unfoldable pub entry : (Crossing → Bool) → ℕ → ℕ → ℕ → List ℕ
+entry f start count line =
+    cond (isListed f start count line) (line ∷ onArrival count (distance start line) ∷ distance start line ∷ []) []
+
+-- the lines below a number, in rising order: their entries, and how many of them are such
+abbrev pub eachBelow : (ℕ → List ℕ) → ℕ → List ℕ
+eachBelow f zero = []
+eachBelow f (suc n) = eachBelow f n ++ f n
+
+abbrev pub countBelow : (ℕ → Bool) → ℕ → ℕ
+countBelow f zero = 0
+countBelow f (suc n) = countBelow f n + cond (f n) 1 0
+
+-- "All 256 lines exist"
+unfoldable pub listed : Stores → List ℕ → Query → List ℕ
+listed st site q = eachBelow (entry (letsPass st site q) (q .start) (q .count)) 256
+
+unfoldable pub linesListed : Stores → List ℕ → Query → ℕ
+linesListed st site q = countBelow (isListed (letsPass st site q) (q .start) (q .count)) 256
+
+-- "the number of forwardings made on the site": each puts the telegram on one line, over the last coupler of the path there
+unfoldable pub isForwardedTo : (Crossing → Bool) → ℕ → ℕ → ℕ → Bool
+isForwardedTo f start count line = isListed f start count line && ltb 0 (distance start line)
+
+unfoldable pub forwardings : Stores → List ℕ → Query → ℕ
+forwardings st site q = countBelow (isForwardedTo (letsPass st site q) (q .start) (q .count)) 256

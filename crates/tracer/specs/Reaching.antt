@@ -1,0 +1,51 @@
+-- A telegram on its way: how many lines it has been put on, the starting line being the first; 0 where it does not come.
+use Prim.Native.Nat.{ℕ, suc, _-_, _<_}
+use mathlib.Core.Bool.{Bool, false, cond, _&&_}
+use mathlib.Core.List.{List, [], _∷_}
+use mathlib.Core.Path.{_≡_}
+use lib.Dec.{ltb, eqb}
+use lib.ListN.{length, getD}
+use Rattle.site.specs.Letting.{passes}
+use Rattle.tracer.specs.Lines.{mainSide, mainSides, isOn, before, Crossing, upOver, path}
+use Rattle.tracer.specs.Listing.{lasts, onArrival, countBelow, isForwardedTo}
+
+-- one coupler hands it on if it lets it pass and the count lasts
+unfoldable pub handed : ℕ → ℕ → Bool → ℕ
+handed count lines passes = cond (ltb 0 lines && passes && lasts count lines) (suc lines) 0
+
+-- over the couplers of a path, one after the other
+abbrev pub along : (Crossing → Bool) → ℕ → ℕ → List Crossing → ℕ
+along f count lines [] = lines
+along f count lines (x ∷ xs) = along f count (handed count lines (f x)) xs
+
+unfoldable pub reach : (Crossing → Bool) → ℕ → ℕ → ℕ → ℕ
+reach f start count line = along f count 1 (path start line)
+
+-- what two rows of marks, by line, say of a crossing
+unfoldable pub marked : List Bool → List Bool → Crossing → Bool
+marked downward upward x = getD (cond (eqb (x .direction) 0) downward upward) (x .line) false
+
+-- the way up to a line that lies between the starting line and 00h
+abbrev pub climbing : ℕ → ℕ → List Crossing
+climbing start top = upOver (before (mainSides start) (top ∷ []))
+
+-- a line is reached up that way, or down over its own coupler from its main side
+unfoldable pub reachBy : List Bool → List Bool → List ℕ → ℕ → ℕ → ℕ → ℕ
+reachBy downward upward lines start count line =
+    cond (isOn line (mainSides start))
+    (along (marked downward upward) count 1 (climbing start line))
+    (handed count (getD lines (mainSide line) 0) (getD downward line false))
+
+-- what is known of every line, and how many forwardings were made
+pub record Spread (f : Crossing → Bool) (start count : ℕ) (reached : List ℕ) (made : ℕ) : Type 0 where
+  pub size : length reached ≡ 256
+  pub each : (line : ℕ) → line < 256 → getD reached line 0 ≡ reach f start count line
+  pub forwarded : made ≡ countBelow (isForwardedTo f start count) 256
+
+unfoldable pub isReached : List ℕ → ℕ → Bool
+isReached lines line = ltb 0 (getD lines line 0)
+
+-- the three octets of a line, by how many lines the telegram has been put on
+unfoldable pub entryBy : ℕ → List ℕ → ℕ → List ℕ
+entryBy count lines line =
+    cond (isReached lines line) (line ∷ onArrival count (getD lines line 0 - 1) ∷ (getD lines line 0 - 1) ∷ []) []

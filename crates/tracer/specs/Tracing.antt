@@ -1,0 +1,44 @@
+-- The trace: document 01, "Sites and the tracer".
+use Prim.Native.Nat.{ℕ}
+use mathlib.Core.Bool.{Bool, not, _&&_}
+use mathlib.Core.List.{List, [], _∷_}
+use mathlib.Core.Path.{_≡_}
+use lib.Dec.{ltb, leb}
+use lib.ListN.{length}
+use Rattle.frame.specs.Order.{Test, Verdict, firstOf, _gives_, pass, refuse}
+use Rattle.frame.specs.Refusals.{number}
+use Rattle.frame.specs.declared.Refusal.the-variants.{SmallRoom, OutOfRange}
+use Rattle.octets.specs.Room.{over}
+use Rattle.site.specs.Stores.{Stores}
+use Rattle.site.specs.WellFormed.{siteTests}
+use Rattle.tracer.specs.Listing.{Query, listed, linesListed, forwardings}
+use Rattle.tracer.specs.declared.Traced.{Traced}
+
+-- "Order: 14 (kind, count), 13 (room below 768), 18 (store sizes), 16 (length), then record by record"
+abbrev pub isQuery : Query → Bool
+isQuery q = leb (q .kind) 1 && leb (q .count) 7
+
+abbrev pub traceTests : Stores → List ℕ → Query → ℕ → List Test
+traceTests st site q room =
+    not (isQuery q) gives OutOfRange
+    ∷ ltb room 768 gives SmallRoom
+    ∷ siteTests st site
+
+-- nothing refused: the list at the front of the room, "octets behind the list stay"
+pub record DidList (st : Stores) (site : List ℕ) (q : Query) (room : List ℕ) (answer : Traced) (room′ : List ℕ) : Type 0 where
+  pub answered : answer ≡ record { number = 0; lines = linesListed st site q; forwardings = forwardings st site q }
+  pub left : room′ ≡ over (listed st site q) room
+
+-- what the call answers and what stands at the front of the room: on a refusal its number and nothing
+abbrev pub tracedBy : Stores → List ℕ → Query → Verdict → Traced
+tracedBy st site q pass = record { number = 0; lines = linesListed st site q; forwardings = forwardings st site q }
+tracedBy st site q (refuse r) = record { number = number r; lines = 0; forwardings = 0 }
+
+abbrev pub listBy : Stores → List ℕ → Query → Verdict → List ℕ
+listBy st site q pass = listed st site q
+listBy st site q (refuse r) = []
+
+-- "Lent octets behind the list stay."
+pub record DidTrace (st : Stores) (site : List ℕ) (q : Query) (room : List ℕ) (answer : Traced) (room′ : List ℕ) : Type 0 where
+  pub answered : answer ≡ tracedBy st site q (firstOf (traceTests st site q (length room)))
+  pub left : room′ ≡ over (listBy st site q (firstOf (traceTests st site q (length room)))) room

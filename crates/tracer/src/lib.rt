@@ -1,0 +1,159 @@
+// The tracer: which lines of a site a telegram comes to, and why it does not come to another.
+mod lines;
+mod listing;
+mod reaching;
+mod walking;
+
+ghost use mathlib.Core.Path.{_≡_};
+ghost use Prim.Native.Nat.{_≤_};
+ghost use lib.ListN.{length};
+ghost use Rattle.frame.specs.Order.{firstOf};
+ghost use Rattle.coupler.specs.Step.{judgedBy};
+ghost use Rattle.site.specs.Stores.{stores};
+ghost use Rattle.tracer.specs.Lines.{mainSide};
+ghost use Rattle.tracer.specs.Listing.{queryOf};
+ghost use Rattle.tracer.specs.Tracing.{traceTests, DidTrace, DidList};
+ghost use Rattle.tracer.specs.Why.{answerWhy};
+use coupler::Judged;
+use coupler::Passage;
+use frame::Refusal;
+
+// "The result also carries the number of forwardings made on the site".
+pub struct Traced {
+    pub number: u8,
+    pub lines: usize,
+    pub forwardings: usize,
+}
+
+// For each line how many lines the telegram has been put on when it comes there, 0 where it does not come.
+pub struct Arrivals {
+    pub lines: [u8; 256],
+    pub forwardings: usize,
+}
+
+// The first coupler on the path that does not hand the telegram on, and why.
+pub struct Stop {
+    pub coupler: u8,
+    pub direction: u8,
+    pub reason: Passage,
+}
+
+// A telegram on its way: going, with its count, or stopped.
+pub enum Walk {
+    Going(u8),
+    Stopped(Stop),
+}
+
+pub enum Explanation {
+    Reached,
+    NotReached(Stop),
+    Refused(Refusal),
+}
+
+// "Its main side is n with the low four bits cleared if those are not zero, else 00h."
+pub fn main_side(line: u8) -> u8
+    ensures { λ r. ⌜ r ≡ mainSide line ⌝ }
+{
+    if line % 16 == 0 { 0 } else { line - line % 16 }
+}
+
+// "Order: 14 (kind, count), 13 (room below 768), 18 (store sizes), 16 (length), then record by record"
+fn judge<'a>(
+    kind: u8,
+    count: u8,
+    site: &[u8],
+    project: &'a [u8],
+    own: &'a [u8],
+    room: usize,
+) -> Judged
+    ensures { λ r. ⌜ r ≡ judgedBy (firstOf (traceTests (stores (now (project .entry)) (now (own .entry))) (now (site .entry)) (queryOf 0 kind 0 count) room)) ⌝ }
+{
+    let asked = (kind <= 1) & (count <= 7);
+    if asked {
+        if room < 768 {
+            return Judged::Refused(Refusal::SmallRoom);
+        }
+        site::judge(site, project, own)
+    } else {
+        Judged::Refused(Refusal::OutOfRange)
+    }
+}
+
+fn list<'a>(
+    start: u8,
+    kind: u8,
+    destination: u16,
+    count: u8,
+    site: &[u8],
+    project: &'a [u8],
+    own: &'a [u8],
+    room: &mut [u8],
+) -> Traced
+    requires { ⌜ 768 ≤ length (now room) ⌝ }
+    ensures { λ r. ⌜ DidList (stores (now (project .entry)) (now (own .entry))) (now (site .entry)) (queryOf start kind destination count) (now (room .entry)) r (now (room .exit)) ⌝ }
+{
+    let group = kind == 1;
+    let down = site::letting(site, project, own, 0, group, destination);
+    let up = site::letting(site, project, own, 1, group, destination);
+    let arrivals = reaching::spread(&down, &up, start, count);
+    let reached = arrivals.lines;
+    let lines = listing::list(&reached, count, room);
+    Traced {
+        number: 0,
+        lines,
+        forwardings: arrivals.forwardings,
+    }
+}
+
+// Lists the lines that a telegram comes to, as a first sending put on the starting line, at the front
+// of the room: three octets for each, in rising order.
+pub fn trace<'a>(
+    start: u8,
+    kind: u8,
+    destination: u16,
+    count: u8,
+    site: &[u8],
+    project: &'a [u8],
+    own: &'a [u8],
+    room: &mut [u8],
+) -> Traced
+    ensures { λ r. ⌜ DidTrace (stores (now (project .entry)) (now (own .entry))) (now (site .entry)) (queryOf start kind destination count) (now (room .entry)) r (now (room .exit)) ⌝ }
+{
+    let judged = judge(kind, count, site, project, own, room.len());
+    match judged {
+        Judged::Refused(refusal) => Traced {
+            number: refusal.number(),
+            lines: 0,
+            forwardings: 0,
+        },
+        Judged::Fine => list(start, kind, destination, count, site, project, own, room),
+    }
+}
+
+// Whether the telegram comes to a line; if not, the first coupler on the path that does not hand it
+// on, in which direction, and why.
+pub fn why<'a>(
+    start: u8,
+    kind: u8,
+    destination: u16,
+    count: u8,
+    site: &[u8],
+    project: &'a [u8],
+    own: &'a [u8],
+    line: u8,
+) -> Explanation
+    ensures { λ r. ⌜ r ≡ answerWhy (stores (now (project .entry)) (now (own .entry))) (now (site .entry)) (queryOf start kind destination count) line ⌝ }
+{
+    let judged = judge(kind, count, site, project, own, 768);
+    if let Judged::Refused(refusal) = judged {
+        return Explanation::Refused(refusal);
+    }
+    let group = kind == 1;
+    let sent = Walk::Going(count);
+    let joined = walking::walk_up(site, project, own, group, destination, sent, start, line);
+    let walk = walking::walk_down(site, project, own, group, destination, joined, start, line);
+    match walk {
+        Walk::Going(_) => Explanation::Reached,
+        Walk::Stopped(stop) => Explanation::NotReached(stop),
+    }
+}
