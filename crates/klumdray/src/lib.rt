@@ -1,6 +1,7 @@
 // The surface for C and Rust: numbers and byte slices only. include/klumdray.h documents each call.
 mod block;
 mod numbers;
+mod traces;
 
 ghost use mathlib.Core.Path.{_≡_};
 ghost use mathlib.Core.Bool.{_&&_};
@@ -17,8 +18,12 @@ ghost use Rattle.cemi.specs.Writing.{messageInRange};
 ghost use Rattle.routing.specs.Layout.{routingOctets};
 ghost use Rattle.routing.specs.Reading.{readRouting, routedPayload};
 ghost use Rattle.coupler.specs.Step.{settingOf};
+ghost use Rattle.site.specs.Stores.{stores};
+ghost use Rattle.tracer.specs.Listing.{queryOf};
+ghost use Rattle.tracer.specs.Why.{answerWhy};
 ghost use Rattle.klumdray.specs.Block.{codesIn, lentRight, SteppedThrough};
 ghost use Rattle.klumdray.specs.Numbers.{tp1Number, cemiNumber, areFlags, meaningFrom, messageFrom, WroteNumber};
+ghost use Rattle.klumdray.specs.Traces.{explanationNumber, TracedThrough};
 use cemi::Codes;
 
 #[no_mangle]
@@ -192,4 +197,38 @@ pub extern "C" fn klumdray_step(
     } else {
         14
     }
+}
+
+#[no_mangle]
+pub extern "C" fn klumdray_trace<'a>(
+    start: u8,
+    kind: u8,
+    destination: u16,
+    count: u8,
+    site: &[u8],
+    project: &'a [u8],
+    own: &'a [u8],
+    room: &mut [u8],
+) -> u64
+    ensures { λ r. ⌜ TracedThrough (stores (now (project .entry)) (now (own .entry))) (now (site .entry)) (queryOf start kind destination count) (now (room .entry)) r (now (room .exit)) ⌝ }
+{
+    let traced = tracer::trace(start, kind, destination, count, site, project, own, room);
+    traces::of_traced(traced)
+}
+
+#[no_mangle]
+pub extern "C" fn klumdray_why<'a>(
+    start: u8,
+    kind: u8,
+    destination: u16,
+    count: u8,
+    site: &[u8],
+    project: &'a [u8],
+    own: &'a [u8],
+    line: u8,
+) -> u32
+    ensures { λ r. ⌜ r ≡ explanationNumber (answerWhy (stores (now (project .entry)) (now (own .entry))) (now (site .entry)) (queryOf start kind destination count) line) ⌝ }
+{
+    let explanation = tracer::why(start, kind, destination, count, site, project, own, line);
+    traces::of_explanation(explanation)
 }

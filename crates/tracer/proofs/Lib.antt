@@ -1,0 +1,4 @@
+pub mod Paths
+pub mod ReachingLaws
+pub mod RoomLaws
+pub mod WalkingLaws

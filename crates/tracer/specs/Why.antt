@@ -15,10 +15,10 @@ use Rattle.site.specs.WellFormed.{siteTests}
 use Rattle.tracer.specs.Lines.{Crossing, path}
 use Rattle.tracer.specs.Listing.{Query}
 use Rattle.tracer.specs.Tracing.{isQuery}
+use Rattle.tracer.specs.declared.Explanation.the-variants.{Reached, NotReached, Refused}
+use Rattle.tracer.specs.declared.Explanation.{Explanation}
 use Rattle.tracer.specs.declared.Walk.the-variants.{Going, Stopped}
 use Rattle.tracer.specs.declared.Walk.{Walk}
-use Rattle.tracer.specs.declared.Why.the-variants.{Reached, NotReached, Refused}
-use Rattle.tracer.specs.declared.Why.{Why}
 
 -- one coupler: "its count follows the rule of demand 2"
 abbrev pub goesBy : ℕ → Crossing → Passage → Walk
@@ -34,16 +34,16 @@ abbrev pub walked : Stores → List ℕ → Bool → ℕ → Walk → List Cross
 walked st site group destination w [] = w
 walked st site group destination w (x ∷ xs) = walked st site group destination (handedOn st site group destination w x) xs
 
-abbrev pub whyBy : Walk → Why
+abbrev pub whyBy : Walk → Explanation
 whyBy (Going count) = Reached
 whyBy (Stopped stop) = NotReached stop
 
-unfoldable pub whyOf : Stores → List ℕ → Query → ℕ → Why
+unfoldable pub whyOf : Stores → List ℕ → Query → ℕ → Explanation
 whyOf st site q line = whyBy (walked st site (eqb (q .kind) 1) (q .destination) (Going (q .count)) (path (q .start) line))
 
 -- the trace's order; no room is lent here
 abbrev pub whyTests : Stores → List ℕ → Query → List Test
 whyTests st site q = not (isQuery q) gives OutOfRange ∷ siteTests st site
 
-unfoldable pub answerWhy : Stores → List ℕ → Query → ℕ → Why
+unfoldable pub answerWhy : Stores → List ℕ → Query → ℕ → Explanation
 answerWhy st site q line = answerBy Refused (whyOf st site q line) (firstOf (whyTests st site q))

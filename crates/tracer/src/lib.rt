@@ -44,7 +44,7 @@ pub enum Walk {
     Stopped(Stop),
 }
 
-pub enum Why {
+pub enum Explanation {
     Reached,
     NotReached(Stop),
     Refused(Refusal),
@@ -141,19 +141,19 @@ pub fn why<'a>(
     project: &'a [u8],
     own: &'a [u8],
     line: u8,
-) -> Why
+) -> Explanation
     ensures { λ r. ⌜ r ≡ answerWhy (stores (now (project .entry)) (now (own .entry))) (now (site .entry)) (queryOf start kind destination count) line ⌝ }
 {
     let judged = judge(kind, count, site, project, own, 768);
     if let Judged::Refused(refusal) = judged {
-        return Why::Refused(refusal);
+        return Explanation::Refused(refusal);
     }
     let group = kind == 1;
     let sent = Walk::Going(count);
     let joined = walking::walk_up(site, project, own, group, destination, sent, start, line);
     let walk = walking::walk_down(site, project, own, group, destination, joined, start, line);
     match walk {
-        Walk::Going(_) => Why::Reached,
-        Walk::Stopped(stop) => Why::NotReached(stop),
+        Walk::Going(_) => Explanation::Reached,
+        Walk::Stopped(stop) => Explanation::NotReached(stop),
     }
 }

@@ -1,11 +1,27 @@
 // A telegram followed over the couplers of one path, to the first that does not hand it on.
 ghost use mathlib.Core.Path.{_≡_};
+ghost use Rattle.coupler.specs.Passing.{doesPass};
 ghost use Rattle.site.specs.Stores.{stores};
 ghost use Rattle.tracer.specs.Lines.{mainSides, before, upOver, downOver, crossing};
 ghost use Rattle.tracer.specs.Why.{handedOn, walked};
 use crate::Stop;
 use crate::Walk;
 use coupler::Passage;
+
+fn does_pass(passage: Passage) -> bool
+    ensures { λ r. ⌜ r ≡ doesPass passage ⌝ }
+{
+    match passage {
+        Passage::Passes => true,
+        Passage::NotFitted => false,
+        Passage::OwnAddress => false,
+        Passage::Closed => false,
+        Passage::NotBelow => false,
+        Passage::NotAbove => false,
+        Passage::NotInTable => false,
+        Passage::UsedUp => false,
+    }
+}
 
 fn hand_on<'a>(
     site: &[u8],
@@ -32,14 +48,14 @@ fn hand_on<'a>(
                 destination,
                 count,
             );
-            let Passage::Passes = reason else {
-                return Walk::Stopped(Stop {
-                    coupler,
-                    direction,
-                    reason,
-                });
-            };
-            Walk::Going(coupler::hopped_count(count))
+            if does_pass(reason) {
+                return Walk::Going(coupler::hopped_count(count));
+            }
+            Walk::Stopped(Stop {
+                coupler,
+                direction,
+                reason,
+            })
         }
     }
 }

@@ -1,0 +1,49 @@
+// The tracer's answers as the numbers that cross the surface.
+ghost use mathlib.Core.Path.{_≡_};
+ghost use Prim.Native.Nat.{_<_};
+ghost use Rattle.tracer.specs.declared.Explanation.the-variants.{NotReached};
+ghost use Rattle.klumdray.specs.Traces.{tracedNumber, passageNumber, explanationNumber};
+use coupler::Passage;
+use tracer::Explanation;
+use tracer::Stop;
+use tracer::Traced;
+
+pub(crate) fn of_traced(traced: Traced) -> u64
+    ensures { λ r. ⌜ r ≡ tracedNumber traced ⌝ }
+{
+    let lines = (traced.lines % 65536) as u64;
+    let forwardings = (traced.forwardings % 65536) as u64;
+    traced.number as u64 + lines * 256 + forwardings * 16777216
+}
+
+fn of_passage(passage: Passage) -> u32
+    ensures { λ r. ⌜ (r ≡ passageNumber passage) × (r < 8) ⌝ }
+{
+    match passage {
+        Passage::Passes => 0,
+        Passage::NotFitted => 1,
+        Passage::OwnAddress => 2,
+        Passage::Closed => 3,
+        Passage::NotBelow => 4,
+        Passage::NotAbove => 5,
+        Passage::NotInTable => 6,
+        Passage::UsedUp => 7,
+    }
+}
+
+fn of_stop(stop: Stop) -> u32
+    ensures { λ r. ⌜ r ≡ explanationNumber (NotReached stop) ⌝ }
+{
+    let reason = stop.reason;
+    of_passage(reason) * 256 + stop.coupler as u32 * 65536 + stop.direction as u32 * 16777216
+}
+
+pub(crate) fn of_explanation(explanation: Explanation) -> u32
+    ensures { λ r. ⌜ r ≡ explanationNumber explanation ⌝ }
+{
+    match explanation {
+        Explanation::Reached => 0,
+        Explanation::NotReached(stop) => of_stop(stop),
+        Explanation::Refused(refusal) => refusal.number() as u32,
+    }
+}

@@ -1,0 +1,97 @@
+-- The loops over the records that look for couplers: the last record of a line counts, so each overwrites what was found before.
+use Prim.Native.Nat.{ℕ, _+_, _-_, _≤_, _<_}
+use mathlib.Core.Bool.{Bool, true, false, cond}
+use mathlib.Core.List.{List, [], _∷_}
+use mathlib.Core.Path.{_≡_, refl, sym, ap, _∙_}
+use native.Mathlib.Omega.{arith}
+use lib.Dec.{eqb}
+use lib.ListN.{length, getD, drop, set, length-set, replicate, getD-replicate}
+use lib.Seq.{getD-set-same, getD-set-other}
+use borrow.Author.Tests.{lt-leb, eq-eqb, ne-eqb}
+use Rattle.site.proofs.RecordLaws.{records-more, records-end, by-equal}
+use Rattle.site.specs.Letting.{passes, letsBy, lets, Marks}
+use Rattle.site.specs.Records.{recordsOf, recordAt, lineOf, couplerIn, couplerOf}
+use Rattle.site.specs.Stores.{Stores}
+
+-- a test of the record that is found, as the fold of its answers
+abbrev pub answersIn : (List ℕ → Bool) → ℕ → Bool → List (List ℕ) → Bool
+answersIn f line was [] = was
+answersIn f line was (r ∷ rs) = answersIn f line (cond (eqb (lineOf r) line) (f r) was) rs
+
+of-chosen : (f : List ℕ → Bool) (b : Bool) (r s : List ℕ) → f (cond b r s) ≡ cond b (f r) (f s)
+of-chosen f true r s = refl
+of-chosen f false r s = refl
+
+answers-found : (f : List ℕ → Bool) (line : ℕ) (found : List ℕ) (rs : List (List ℕ)) → f (couplerIn line found rs) ≡ answersIn f line (f found) rs
+answers-found f line found [] = refl
+answers-found f line found (r ∷ rs) =
+    answers-found f line (cond (eqb (lineOf r) line) r found) rs ∙ ap (λ (b : Bool). answersIn f line b rs) (of-chosen f (eqb (lineOf r) line) r found)
+
+-- the marks say of every line what the records before an index do
+pub record Letting (f : List ℕ → Bool) (site : List ℕ) (marks : List Bool) (from : ℕ) : Type 0 where
+  pub most : from ≤ length site
+  pub size : length marks ≡ 256
+  pub each : (n : ℕ) → n < 256 → f (couplerOf n (recordsOf site)) ≡ answersIn f n (getD marks n false) (recordsOf (drop from site))
+
+pub letting-none : (f : List ℕ → Bool) (site : List ℕ) (marks : List Bool) → f [] ≡ false → marks ≡ replicate 256 false → Letting f site marks 0
+unfolding couplerOf
+letting-none f site marks z e = record {
+  most = omega arith;
+  size = ap length e;
+  each = λ n h. answers-found f n [] (recordsOf site) ∙ ap (λ (b : Bool). answersIn f n b (recordsOf site)) (z ∙ sym (ap (λ (l : List Bool). getD l n false) e ∙ getD-replicate 256 n false false h));
+}
+
+pub letting-more : {f : List ℕ → Bool} {site : List ℕ} {marks : List Bool} {from : ℕ} → Letting f site marks from → 12 ≤ length site - from
+    → {octets : List ℕ} {line : ℕ} {mark : Bool} → octets ≡ recordAt site from → line ≡ lineOf octets → line < 256 → mark ≡ f octets
+    → Letting f site (set marks line mark) (from + 12)
+letting-more {f} {site} {marks} {from} w h {octets} {line} {mark} r l b m = record {
+  most = omega arith;
+  size = length-set marks line mark ∙ w .size;
+  each = λ n hn.
+      let rest = recordsOf (drop (from + 12) site) in
+      let c : cond (eqb (lineOf octets) n) (f octets) (getD marks n false) ≡ getD (set marks line mark) n false = by-equal line n
+      (λ e. rw (← l, eq-eqb line n e, ← e, ← m) (sym (getD-set-same marks line mark false (omega (arith, w .size)))))
+      (λ e. rw (← l, ne-eqb line n e) (sym (getD-set-other marks line n mark false (λ y. e (sym y))))) in
+      w .each n hn
+      ∙ ap (λ (rs : List (List ℕ)). answersIn f n (getD marks n false) rs) (records-more site from h ∙ ap (λ (o : List ℕ). o ∷ rest) (sym r))
+      ∙ ap (λ (x : Bool). answersIn f n x rest) c;
+}
+
+pub letting-all : (st : Stores) (group : Bool) (destination direction : ℕ) {site : List ℕ} {marks : List Bool} {from : ℕ}
+    → Letting (letsBy st group destination direction) site marks from → length site - from < 12 → Marks (lets st group destination (recordsOf site) direction) marks
+unfolding lets
+letting-all st group destination direction {site} {marks} {from} w h = record {
+  size = w .size;
+  each = λ n hn. sym (rw (records-end site from h) at (w .each n hn));
+}
+
+pub lets-whole : (st : Stores) (group : Bool) (destination direction : ℕ) (octets : List ℕ) → length octets ≡ 12
+    → passes st group destination direction octets ≡ letsBy st group destination direction octets
+lets-whole st group destination direction octets h = rw h refl
+
+-- the record that is found
+pub record Seeking (line : ℕ) (site : List ℕ) (found from : ℕ) : Type 0 where
+  pub most : from ≤ length site
+  pub so-far : couplerOf line (recordsOf site) ≡ couplerIn line (recordAt site found) (recordsOf (drop from site))
+
+pub seeking-none : (line : ℕ) (site : List ℕ) → Seeking line site (length site) 0
+unfolding couplerOf recordAt
+seeking-none line site = record { most = omega arith; so-far = rw (lt-leb (length site + 12) (length site) (omega arith)) refl }
+
+module _ {line : ℕ} {site : List ℕ} {found from : ℕ} (w : Seeking line site found from) (h : 12 ≤ length site - from) {n : ℕ} (l : n ≡ lineOf (recordAt site from)) where
+  step : couplerOf line (recordsOf site) ≡ couplerIn line (cond (eqb n line) (recordAt site from) (recordAt site found)) (recordsOf (drop (from + 12) site))
+  step =
+      let rest = recordsOf (drop (from + 12) site) in
+      w .so-far
+      ∙ ap (λ (rs : List (List ℕ)). couplerIn line (recordAt site found) rs) (records-more site from h)
+      ∙ ap (λ (k : ℕ). couplerIn line (cond (eqb k line) (recordAt site from) (recordAt site found)) rest) (sym l)
+
+  pub seeking-found : n ≡ line → Seeking line site from (from + 12)
+  seeking-found e = record { most = omega arith; so-far = rw (eq-eqb n line e) at step }
+
+  pub seeking-other : (n ≡ line → ⊥) → Seeking line site found (from + 12)
+  seeking-other e = record { most = omega arith; so-far = rw (ne-eqb n line e) at step }
+
+pub seeking-all : {line : ℕ} {site : List ℕ} {found from : ℕ} → Seeking line site found from → length site - from < 12
+    → {octets : List ℕ} → octets ≡ recordAt site found → octets ≡ couplerOf line (recordsOf site)
+seeking-all {site = site} {from = from} w h e = e ∙ sym (rw (records-end site from h) at (w .so-far))

@@ -1,0 +1,21 @@
+-- The coupler's own test, with what the record says.
+use borrow.Author.Needs.{needs}
+use Rattle.site.specs.Letting.{passes}
+use Rattle.site.proofs.lets_pass.Statement.{statement}
+use Rattle.site.proofs.lets_pass.Tie as tie
+
+returns : tie.Need-returns
+unfolding passes
+returns c =
+    rw (← c .before .before .before .before .line-of .ensures, ← c .before .before .before .codes-of .ensures, ← c .before .before .table-number .ensures, ← c .before .table-of .ensures .table .holds) (c .may-pass .ensures)
+
+pub lets-pass-spec : {M : Type 1} → statement M
+lets-pass-spec =
+    tie.close
+    (tie.spec
+    (λ c κs. search needs)
+    (λ c κs. search needs)
+    (λ c κs. search needs)
+    (λ c κs. search needs)
+    (λ c κs. search needs)
+    returns)

@@ -1,0 +1,142 @@
+-- Over the couplers of a path a telegram comes as far as all of them let it pass and the count lasts: so what is worked out from line to
+-- line is what the path says.
+use Prim.Native.Nat.{ℕ, suc, _+_, _≤_, _<_}
+use mathlib.Core.Bool.{Bool, true, false, cond, _&&_}
+use mathlib.Core.List.{List, [], _∷_, _++_}
+use mathlib.Core.Path.{_≡_, refl, sym, ap, _∙_}
+use native.Mathlib.Nat.{add-zero, zero-add}
+use native.Mathlib.Omega.{arith}
+use lib.Dec.{ltb, eqb, leb·suc-suc}
+use lib.ListN.{length, getD}
+use borrow.Author.Tests.{leb-false, lt-ltb, le-leb, lt-leb, eq-eqb, ne-eqb}
+use Rattle.tracer.proofs.Paths.{by-cases, never, main-below, depth-main, mains-zero, mains-cons, on-self, on-zero, on-next, before-on, before-off, path-climb, path-down, distance-four}
+use Rattle.tracer.specs.Lines.{mainSide, depth, mainSides, isOn, before, Crossing, upOver, path, distance}
+use Rattle.tracer.specs.Listing.{allPass, lasts, isListed, isForwardedTo}
+use Rattle.tracer.specs.Reaching.{handed, along, reach, marked, climbing, reachBy}
+
+-- one path after another
+pub along-append : (f : Crossing → Bool) (c l : ℕ) (p q : List Crossing) → along f c l (p ++ q) ≡ along f c (along f c l p) q
+along-append f c l [] q = refl
+along-append f c l (x ∷ p) q = along-append f c (handed c l (f x)) p q
+
+pub handed-most : (c l : ℕ) (b : Bool) → handed c l b ≤ suc l
+unfolding handed
+handed-most c l b = by-cases (ltb 0 l && b && lasts c l) (λ e. rw e (omega arith)) (λ e. rw e (omega arith))
+
+handed-zero : (c : ℕ) (b : Bool) → handed c 0 b ≡ 0
+unfolding handed
+handed-zero c b = refl
+
+pub along-zero : (f : Crossing → Bool) (c : ℕ) (p : List Crossing) → along f c 0 p ≡ 0
+along-zero f c [] = refl
+along-zero f c (x ∷ p) = rw (handed-zero c (f x)) (along-zero f c p)
+
+pub along-most : (f : Crossing → Bool) (c l : ℕ) (p : List Crossing) → along f c l p ≤ l + length p
+along-most f c l [] = omega arith
+along-most f c l (x ∷ p) = omega (arith, along-most f c (handed c l (f x)) p, handed-most c l (f x))
+
+-- a count that lasts for so many couplers lasts for fewer
+lasts-less : (c d k : ℕ) → lasts c d ≡ false → lasts c (d + k) ≡ false
+unfolding lasts
+lasts-less c d k = by-cases (eqb c 7) (λ e. rw e (λ h. h)) (λ e. rw e (λ h. lt-leb (d + k) c (omega (arith, leb-false d c h))))
+
+handed-on : (c d : ℕ) (b : Bool) → handed c (suc d) b ≡ cond (b && lasts c (suc d)) (suc (suc d)) 0
+unfolding handed
+handed-on c d b = rw (lt-ltb 0 (suc d) (omega arith))
+
+and-false : (a : Bool) → a && false ≡ false
+and-false true = refl
+and-false false = refl
+
+-- listed or not: from d couplers crossed on
+along-from : (f : Crossing → Bool) (c d : ℕ) (p : List Crossing) → lasts c d ≡ true
+    → along f c (suc d) p ≡ cond (allPass f p && lasts c (d + length p)) (suc (d + length p)) 0
+along-from f c d [] h = rw (add-zero d, h) refl
+along-from f c d (x ∷ p) h =
+    let n : d + suc (length p) ≡ suc d + length p = omega arith in
+    rw (n, handed-on c d (f x))
+    (by-cases (f x)
+    (λ e. by-cases (lasts c (suc d))
+        (λ k. rw (e, k) (along-from f c (suc d) p k))
+        (λ k. rw (e, k, lasts-less c (suc d) (length p) k, and-false (allPass f p)) (along-zero f c p)))
+    (λ e. rw e (along-zero f c p)))
+
+lasts-none : (c : ℕ) → lasts c 0 ≡ true
+unfolding lasts
+lasts-none c = rw (le-leb 0 c (omega arith)) (by-cases (eqb c 7) (λ e. rw e refl) (λ e. rw e refl))
+
+module _ (f : Crossing → Bool) (s c : ℕ) where
+  -- so many lines a telegram has been put on when it comes to a listed line, and to no other it comes
+  pub reach-listed : (t : ℕ) → reach f s c t ≡ cond (isListed f s c t) (suc (distance s t)) 0
+  unfolding reach isListed distance
+  reach-listed t = along-from f c 0 (path s t) (lasts-none c) ∙ rw zero-add refl
+
+  pub reach-five : (t : ℕ) → reach f s c t ≤ 5
+  reach-five t =
+      rw (reach-listed t)
+      (by-cases (isListed f s c t) (λ e. rw e (omega (arith, distance-four s t))) (λ e. rw e (omega arith)))
+
+  -- it was put there over a coupler exactly if it has been put on two lines at least
+  pub reach-forwarded : (t : ℕ) → ltb 1 (reach f s c t) ≡ isForwardedTo f s c t
+  unfolding isForwardedTo
+  reach-forwarded t =
+      rw (reach-listed t) (by-cases (isListed f s c t) (λ e. rw e (leb·suc-suc 1 (distance s t))) (λ e. rw e refl))
+
+  pub reach-reached : (t : ℕ) → ltb 0 (reach f s c t) ≡ isListed f s c t
+  reach-reached t =
+      rw (reach-listed t) (by-cases (isListed f s c t) (λ e. rw e (lt-ltb 0 (suc (distance s t)) (omega arith))) (λ e. rw e refl))
+
+-- up over couplers it is all one which marks of the way down are beside
+climb-marked : (d u : List Bool) (c l : ℕ) (ns : List ℕ) → along (marked u u) c l (upOver ns) ≡ along (marked d u) c l (upOver ns)
+unfolding marked
+climb-marked d u c l [] = refl
+climb-marked d u c l (n ∷ ns) = climb-marked d u c (handed c l (getD u n false)) ns
+
+pub reach-climbed : (d u : List Bool) (lines : List ℕ) (s c t : ℕ) {r : ℕ} → isOn t (mainSides s) ≡ true → r ≡ along (marked u u) c 1 (climbing s t)
+    → r ≡ reachBy d u lines s c t
+unfolding reachBy
+reach-climbed d u lines s c t e q = rw e (q ∙ climb-marked d u c 1 (before (mainSides s) (t ∷ [])))
+
+-- main sides known, a line is known
+pub reach-by : (d u : List Bool) (lines : List ℕ) (s c t : ℕ) → ((n : ℕ) → n < t → getD lines n 0 ≡ reach (marked d u) s c n)
+    → reachBy d u lines s c t ≡ reach (marked d u) s c t
+unfolding reachBy reach marked
+reach-by d u lines s c t h =
+    by-cases (isOn t (mainSides s))
+    (λ e. rw (e, path-climb s t e) refl)
+    (λ e.
+        let z : t ≡ 0 → ⊥ = λ z. never (sym (on-zero s) ∙ rw z at e) in
+        rw (e, path-down s t e, along-append, h (mainSide t) (main-below t z)) refl)
+
+pub less-deep : {n m : ℕ} → (n ≡ 0 → ⊥) → m ≡ mainSide n → depth m < depth n
+less-deep {n} h e = omega (arith, ap depth e, depth-main n h)
+
+-- whether a line stands above another, from that one up
+module _ {line other : ℕ} where
+  pub above-self : other ≡ line → true ≡ isOn line (mainSides other)
+  above-self e = rw e (sym (on-self line))
+
+  pub above-none : (other ≡ line → ⊥) → other ≡ 0 → false ≡ isOn line (mainSides other)
+  above-none d z = rw (z, mains-zero, ne-eqb 0 line (λ e. d (z ∙ e))) refl
+
+  pub above-more : {main : ℕ} {r : Bool} → (other ≡ line → ⊥) → (other ≡ 0 → ⊥) → main ≡ mainSide other → r ≡ isOn line (mainSides main)
+      → r ≡ isOn line (mainSides other)
+  above-more d z e k = rw (mains-cons other z, ne-eqb other line d, ← e) k
+
+-- the way up, coupler after coupler
+module _ {from top : ℕ} where
+  pub climb-none : from ≡ top → climbing from top ≡ []
+  climb-none e = rw (e, before-on top (top ∷ []) (rw (eq-eqb top top refl) refl)) refl
+
+  module _ (d : from ≡ top → ⊥) (e : isOn top (mainSides from) ≡ true) {main : ℕ} (em : main ≡ mainSide from) where
+    pub climb-less : depth main < depth from
+    climb-less = less-deep (on-next top from d e .0) em
+
+    pub climb-on : isOn top (mainSides main) ≡ true
+    climb-on = rw em (on-next top from d e .1)
+
+    pub climb-more : (u : List Bool) (c l : ℕ) {l′ r : ℕ} → l′ ≡ handed c l (getD u from false) → r ≡ along (marked u u) c l′ (climbing main top)
+        → r ≡ along (marked u u) c l (climbing from top)
+    unfolding marked
+    climb-more u c l el q =
+        rw (before-off from (top ∷ []) (on-next top from d e .0) (rw (ne-eqb top from (λ z. d (sym z))) refl)) (rw (el, em) at q)

@@ -1,0 +1,61 @@
+-- A telegram followed over a path: one coupler, and a path in two pieces.
+use Prim.Native.Nat.{ℕ}
+use mathlib.Core.Bool.{Bool, true, false}
+use mathlib.Core.List.{List, [], _∷_, _++_}
+use mathlib.Core.Path.{_≡_, refl, sym, ap, _∙_}
+use native.Mathlib.Omega.{arith}
+use Rattle.coupler.specs.Passing.{hopped, doesPass}
+use Rattle.coupler.specs.declared.Passage.{Passage}
+use Rattle.site.specs.Letting.{passageAt}
+use Rattle.site.specs.Records.{recordsOf}
+use Rattle.site.specs.Stores.{Stores}
+use Rattle.tracer.proofs.Paths.{on-zero, before-on, before-off}
+use Rattle.tracer.specs.Lines.{mainSide, mainSides, isOn, before, Crossing, up, down, upOver, downOver}
+use Rattle.tracer.specs.Why.{handedOn, walked}
+use Rattle.tracer.specs.declared.Stop.{Stop}
+use Rattle.tracer.specs.declared.Walk.the-variants.{Going, Stopped}
+use Rattle.tracer.specs.declared.Walk.{Walk}
+
+-- a line that is not on the way to 00h is not 00h
+pub not-zero : (n m : ℕ) → isOn n (mainSides m) ≡ false → n ≡ 0 → ⊥
+not-zero n m e z =
+    let f : true ≡ false = sym (on-zero m) ∙ (rw z at e) in
+    let y : _≡_ {A = ℕ} 0 1 = cc in
+    omega arith
+
+module _ (st : Stores) (site : List ℕ) (group : Bool) (destination : ℕ) where
+  pub hand-stopped : {w : Walk} (x : Crossing) (stop : Stop) → w ≡ Stopped stop → Stopped stop ≡ handedOn st site group destination w x
+  hand-stopped x stop e = rw e refl
+
+  module _ {w : Walk} (x : Crossing) (count : ℕ) (e : w ≡ Going count) {p : Passage} (q : p ≡ passageAt st group destination (recordsOf site) (x .direction) (x .line) count) {b : Bool} (d : b ≡ doesPass p) where
+    pub hand-goes : {n : ℕ} → b ≡ true → n ≡ hopped count → Going n ≡ handedOn st site group destination w x
+    hand-goes t h = rw (e, ← q, ← d, t) (ap Going h)
+
+    pub hand-stops : b ≡ false → Stopped (record { coupler = x .line; direction = x .direction; reason = p }) ≡ handedOn st site group destination w x
+    hand-stops f = rw (e, ← q, ← d, f) refl
+
+  pub walked-append : (w : Walk) (xs ys : List Crossing) → walked st site group destination w (xs ++ ys) ≡ walked st site group destination (walked st site group destination w xs) ys
+  walked-append w [] ys = refl
+  walked-append w (x ∷ xs) ys = walked-append (handedOn st site group destination w x) xs ys
+
+  -- up to the first line in common, and down from it: a line that the other's main sides have too ends the way, any other is one coupler
+  pub up-joined : (w : Walk) (from to : ℕ) {b : Bool} → b ≡ isOn from (mainSides to) → b ≡ true → w ≡ walked st site group destination w (upOver (before (mainSides from) (mainSides to)))
+  up-joined w from to e t = rw (before-on from (mainSides to) (sym e ∙ t)) refl
+
+  pub up-more : (w : Walk) {next r : Walk} {main : ℕ} (from to : ℕ) {b : Bool} → b ≡ isOn from (mainSides to) → b ≡ false → next ≡ handedOn st site group destination w (up from) → main ≡ mainSide from
+      → r ≡ walked st site group destination next (upOver (before (mainSides main) (mainSides to))) → r ≡ walked st site group destination w (upOver (before (mainSides from) (mainSides to)))
+  up-more w {main = main} from to e f n m r =
+      r
+      ∙ ap (λ (v : Walk). walked st site group destination v (upOver (before (mainSides main) (mainSides to)))) n
+      ∙ ap (λ (k : ℕ). walked st site group destination (handedOn st site group destination w (up from)) (upOver (before (mainSides k) (mainSides to)))) m
+      ∙ ap (λ (l : List ℕ). walked st site group destination w (upOver l)) (sym (before-off from (mainSides to) (not-zero from to (sym e ∙ f)) (sym e ∙ f)))
+
+  pub down-joined : (w : Walk) (from to : ℕ) {b : Bool} → b ≡ isOn to (mainSides from) → b ≡ true → w ≡ walked st site group destination w (downOver (before (mainSides to) (mainSides from)))
+  down-joined w from to e t = rw (before-on to (mainSides from) (sym e ∙ t)) refl
+
+  pub down-more : (w : Walk) {there r : Walk} {main : ℕ} (from to : ℕ) {b : Bool} → b ≡ isOn to (mainSides from) → b ≡ false → main ≡ mainSide to
+      → there ≡ walked st site group destination w (downOver (before (mainSides main) (mainSides from))) → r ≡ handedOn st site group destination there (down to)
+      → r ≡ walked st site group destination w (downOver (before (mainSides to) (mainSides from)))
+  down-more w {main = main} from to e f m t r =
+      rw (before-off to (mainSides from) (not-zero to from (sym e ∙ f)) (sym e ∙ f), ← m)
+      (r ∙ rw t (sym (walked-append w (downOver (before (mainSides main) (mainSides from))) (down to ∷ []))))

@@ -1,0 +1,28 @@
+-- A line not reached has no octets; of one that is reached the entry holds the definition's three.
+use borrow.Author.Needs.{needs}
+use Rattle.tracer.proofs.RoomLaws.{line-none, line-laid}
+use Rattle.tracer.proofs.listing.list_line.Statement.{statement}
+use Rattle.tracer.proofs.listing.list_line.Tie as tie
+
+returns : tie.Need-returns
+returns c =
+    line-none (c .before .before .before .args .count) (c .before .before .before .args .line) (c .before .before .before .args .listed) (c .before .before .before .args .lines .now) (c .before .before .before .args .room .now) (c .if1 .taken)
+
+returns-2 : tie.Need-returns-2
+returns-2 c =
+    line-laid (c .before .before .before .before .before .before .before .before .before .args .count) (c .before .before .before .before .before .before .before .before .before .args .line) (c .before .before .before .before .before .before .before .before .before .args .listed) (c .before .before .before .before .before .before .before .before .before .args .lines .now) (c .before .before .before .before .before .before .before .before .before .args .room .now) (c .before .before .before .before .before .before .if1 .left) (c .before .before .before .before .before .on-arrival .ensures) (c .before .before .lay .ensures)
+
+pub list-line-spec : {M : Type 1} → statement M
+list-line-spec =
+    tie.close
+    (tie.spec
+    (λ c. search needs)
+    returns
+    (λ c. search needs)
+    (λ c κs. search needs)
+    (λ c. search needs)
+    (λ c. search needs)
+    (λ c κs. search needs)
+    (λ c. search needs)
+    (λ c. search needs)
+    returns-2)

@@ -1,0 +1,30 @@
+-- A stopped telegram stays stopped; one that is going goes on if the coupler lets it pass.
+use borrow.Author.Needs.{needs}
+use Rattle.tracer.proofs.WalkingLaws.{hand-stopped, hand-goes, hand-stops}
+use Rattle.tracer.proofs.walking.hand_on.Statement.{statement}
+use Rattle.tracer.proofs.walking.hand_on.Tie as tie
+
+returns : tie.Need-returns
+returns c =
+    hand-goes _ _ _ _ _ _ (c .before .before .before .before .before .walk2 .given .1) (c .before .before .before .why-not .ensures) (c .before .before .does-pass .ensures) (c .before .if1 .taken) (c .hopped-count .ensures)
+
+returns-2 : tie.Need-returns-2
+returns-2 c =
+    hand-stopped _ _ _ _ _ _ (c .before .walk .given .1)
+
+returns-3 : tie.Need-returns-3
+returns-3 c =
+    hand-stops _ _ _ _ _ _ (c .before .before .before .before .walk2 .given .1) (c .before .before .why-not .ensures) (c .before .does-pass .ensures) (c .if1 .left)
+
+pub hand-on-spec : {M : Type 1} → statement M
+hand-on-spec =
+    tie.close
+    (tie.spec
+    (λ c. search needs)
+    (λ c. search needs)
+    (λ c κs. search needs)
+    (λ c κs. search needs)
+    (λ c κs. search needs)
+    returns
+    returns-2
+    returns-3)
