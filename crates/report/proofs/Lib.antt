@@ -2,3 +2,5 @@ pub mod Puts
 pub mod Decimal
 pub mod Line
 pub mod List
+pub mod Size
+pub mod Notation
