@@ -1,6 +1,6 @@
 -- The loops over the records that look for couplers: the last record of a line counts, so each overwrites what was found before.
 use Prim.Native.Nat.{ℕ, _+_, _-_, _≤_, _<_}
-use mathlib.Core.Bool.{Bool, true, false, cond}
+use mathlib.Core.Bool.{Bool, true, false, not, cond, _&&_}
 use mathlib.Core.List.{List, [], _∷_}
 use mathlib.Core.Path.{_≡_, refl, sym, ap, _∙_}
 use native.Mathlib.Omega.{arith}
@@ -8,10 +8,14 @@ use lib.Dec.{eqb}
 use lib.ListN.{length, getD, drop, set, length-set, replicate, getD-replicate}
 use lib.Seq.{getD-set-same, getD-set-other}
 use borrow.Author.Tests.{lt-leb, eq-eqb, ne-eqb}
+use Rattle.coupler.proofs.PassingLaws.{passes-iff}
+use Rattle.coupler.specs.Passing.{mayPass, passageOf, doesPass}
+use Rattle.coupler.specs.declared.Passage.the-variants.{NotFitted}
+use Rattle.coupler.specs.declared.Passage.{Passage}
 use Rattle.site.proofs.RecordLaws.{records-more, records-end, by-equal}
-use Rattle.site.specs.Letting.{passes, letsBy, lets, Marks}
-use Rattle.site.specs.Records.{recordsOf, recordAt, lineOf, couplerIn, couplerOf}
-use Rattle.site.specs.Stores.{Stores}
+use Rattle.site.specs.Letting.{passes, letsBy, lets, Marks, passageBy, passageAt}
+use Rattle.site.specs.Records.{recordsOf, recordAt, lineOf, codesOf, tableNumber, couplerIn, couplerOf, isFitted}
+use Rattle.site.specs.Stores.{Stores, tableOf}
 
 -- a test of the record that is found, as the fold of its answers
 abbrev pub answersIn : (List ℕ → Bool) → ℕ → Bool → List (List ℕ) → Bool
@@ -95,3 +99,19 @@ module _ {line : ℕ} {site : List ℕ} {found from : ℕ} (w : Seeking line sit
 pub seeking-all : {line : ℕ} {site : List ℕ} {found from : ℕ} → Seeking line site found from → length site - from < 12
     → {octets : List ℕ} → octets ≡ recordAt site found → octets ≡ couplerOf line (recordsOf site)
 seeking-all {site = site} {from = from} w h e = e ∙ sym (rw (records-end site from h) at (w .so-far))
+
+-- a coupler makes nothing of a telegram to stop it exactly if it is fitted, lets it pass, and the count is not used up
+pub passage-lets : (st : Stores) (group : Bool) (destination : ℕ) (records : List (List ℕ)) (direction line count : ℕ)
+    → doesPass (passageAt st group destination records direction line count) ≡ lets st group destination records direction line && not (eqb count 0)
+unfolding passageAt passageBy lets passes
+passage-lets st group destination records direction line count = pick (couplerOf line records)
+  where
+    by-fitted : (b : Bool) (p : Passage) (m n : Bool) → doesPass p ≡ m && n → doesPass (cond b p NotFitted) ≡ (b && m) && n
+    by-fitted true p m n e = e
+    by-fitted false p m n e = refl
+
+    pick : (r : List ℕ) → doesPass (passageBy st group destination direction count r) ≡ letsBy st group destination direction r && not (eqb count 0)
+    pick r =
+        let table = tableOf (tableNumber r) st in
+        by-fitted (isFitted r) (passageOf (lineOf r) (codesOf r) table direction group destination count) (mayPass (lineOf r) (codesOf r) table direction group destination) (not (eqb count 0))
+        (passes-iff (lineOf r) (codesOf r) table direction group destination count)

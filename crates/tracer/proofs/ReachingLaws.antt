@@ -1,21 +1,23 @@
 -- Over the couplers of a path a telegram comes as far as all of them let it pass and the count lasts: so what is worked out from line to
 -- line is what the path says.
-use Prim.Native.Nat.{ℕ, suc, _+_, _≤_, _<_}
+use Prim.Native.Nat.{ℕ, zero, suc, _+_, _≤_, _<_}
 use mathlib.Core.Bool.{Bool, true, false, cond, _&&_}
 use mathlib.Core.List.{List, [], _∷_, _++_}
 use mathlib.Core.Path.{_≡_, refl, sym, ap, _∙_}
 use native.Mathlib.Nat.{add-zero, zero-add}
+use native.Mathlib.Numerals.{add-one}
 use native.Mathlib.Omega.{arith}
 use lib.Dec.{ltb, eqb, leb·suc-suc}
-use lib.ListN.{length, getD}
-use borrow.Author.Tests.{leb-false, lt-ltb, le-leb, lt-leb, eq-eqb, ne-eqb}
+use lib.ListN.{length, getD, set, length-set, replicate}
+use lib.Seq.{getD-set-same, getD-set-other}
+use borrow.Author.Tests.{leb-false, eqb-true, eqb-false, lt-ltb, le-leb, lt-leb, eq-eqb, ne-eqb}
 use Rattle.tracer.proofs.Paths.{by-cases, never, main-below, depth-main, mains-zero, mains-cons, on-self, on-zero, on-next, before-on, before-off, path-climb, path-down, distance-four}
 use Rattle.tracer.specs.Lines.{mainSide, depth, mainSides, isOn, before, Crossing, upOver, path, distance}
-use Rattle.tracer.specs.Listing.{allPass, lasts, isListed, isForwardedTo}
-use Rattle.tracer.specs.Reaching.{handed, along, reach, marked, climbing, reachBy}
+use Rattle.tracer.specs.Listing.{allPass, lasts, isListed, countBelow, isForwardedTo}
+use Rattle.tracer.specs.Reaching.{handed, along, reach, marked, climbing, reachBy, Spread}
 
 -- one path after another
-pub along-append : (f : Crossing → Bool) (c l : ℕ) (p q : List Crossing) → along f c l (p ++ q) ≡ along f c (along f c l p) q
+along-append : (f : Crossing → Bool) (c l : ℕ) (p q : List Crossing) → along f c l (p ++ q) ≡ along f c (along f c l p) q
 along-append f c l [] q = refl
 along-append f c l (x ∷ p) q = along-append f c (handed c l (f x)) p q
 
@@ -31,10 +33,6 @@ pub along-zero : (f : Crossing → Bool) (c : ℕ) (p : List Crossing) → along
 along-zero f c [] = refl
 along-zero f c (x ∷ p) = rw (handed-zero c (f x)) (along-zero f c p)
 
-pub along-most : (f : Crossing → Bool) (c l : ℕ) (p : List Crossing) → along f c l p ≤ l + length p
-along-most f c l [] = omega arith
-along-most f c l (x ∷ p) = omega (arith, along-most f c (handed c l (f x)) p, handed-most c l (f x))
-
 -- a count that lasts for so many couplers lasts for fewer
 lasts-less : (c d k : ℕ) → lasts c d ≡ false → lasts c (d + k) ≡ false
 unfolding lasts
@@ -44,7 +42,7 @@ handed-on : (c d : ℕ) (b : Bool) → handed c (suc d) b ≡ cond (b && lasts c
 unfolding handed
 handed-on c d b = rw (lt-ltb 0 (suc d) (omega arith))
 
-and-false : (a : Bool) → a && false ≡ false
+pub and-false : (a : Bool) → a && false ≡ false
 and-false true = refl
 and-false false = refl
 
@@ -61,7 +59,7 @@ along-from f c d (x ∷ p) h =
         (λ k. rw (e, k, lasts-less c (suc d) (length p) k, and-false (allPass f p)) (along-zero f c p)))
     (λ e. rw e (along-zero f c p)))
 
-lasts-none : (c : ℕ) → lasts c 0 ≡ true
+pub lasts-none : (c : ℕ) → lasts c 0 ≡ true
 unfolding lasts
 lasts-none c = rw (le-leb 0 c (omega arith)) (by-cases (eqb c 7) (λ e. rw e refl) (λ e. rw e refl))
 
@@ -140,3 +138,57 @@ module _ {from top : ℕ} where
     unfolding marked
     climb-more u c l el q =
         rw (before-off from (top ∷ []) (on-next top from d e .0) (rw (ne-eqb top from (λ z. d (sym z))) refl)) (rw (el, em) at q)
+
+pub count-most : (f : ℕ → Bool) (n : ℕ) → countBelow f n ≤ n
+count-most f zero = omega arith
+count-most f (suc n) =
+    by-cases (f n) (λ e. rw e (omega (arith, count-most f n))) (λ e. rw e (omega (arith, count-most f n)))
+
+zeros : (k n : ℕ) → _≡_ {A = ℕ} (getD (replicate k 0) n 0) 0
+zeros zero n = refl
+zeros (suc k) zero = refl
+zeros (suc k) (suc n) = zeros k n
+
+-- the lines below i are known, and no line has a number above 5
+pub record Spreading (f : Crossing → Bool) (start count : ℕ) (lines : List ℕ) (made i : ℕ) : Type 0 where
+  pub most : i ≤ 256
+  pub size : length lines ≡ 256
+  pub few : (n : ℕ) → getD lines n 0 ≤ 5
+  pub known : (n : ℕ) → n < i → getD lines n 0 ≡ reach f start count n
+  pub forwarded : made ≡ countBelow (isForwardedTo f start count) i
+
+pub spreading-none : (f : Crossing → Bool) (s c : ℕ) (lines : List ℕ) → lines ≡ replicate 256 0 → Spreading f s c lines 0 0
+spreading-none f s c lines e =
+    record {
+      most = omega arith;
+      size = ap length e;
+      few = λ n. rw e (omega (arith, zeros 256 n));
+      known = λ n h. absurd (omega arith);
+      forwarded = refl;
+    }
+
+module _ {f : Crossing → Bool} {s c : ℕ} {lines : List ℕ} {made i : ℕ} (w : Spreading f s c lines made i) where
+  pub made-few : made ≤ 256
+  made-few = omega (arith, w .forwarded, count-most (isForwardedTo f s c) i, w .most)
+
+  pub spreading-all : 256 ≤ i → Spread f s c lines made
+  spreading-all h =
+      let e : i ≡ 256 = omega (arith, w .most) in
+      record { size = w .size; each = rw e at (w .known); forwarded = rw e at (w .forwarded) }
+
+module _ (d u : List Bool) {s c : ℕ} {lines : List ℕ} {made i : ℕ} (w : Spreading (marked d u) s c lines made i) where
+  pub spreading-more : {made′ r : ℕ} → i < 256 → r ≡ reachBy d u lines s c i → made′ ≡ made + cond (ltb 1 r) 1 0
+      → Spreading (marked d u) s c (set lines i r) made′ (i + 1)
+  spreading-more {made′} {r} h e m =
+      let k : r ≡ reach (marked d u) s c i = e ∙ reach-by d u lines s c i (w .known) in
+      record {
+        most = omega arith;
+        size = length-set lines i r ∙ w .size;
+        few = λ n. by-cases (eqb n i)
+            (λ q. rw (eqb-true n i q, getD-set-same lines i r 0 (omega (arith, w .size))) (omega (arith, k, reach-five (marked d u) s c i)))
+            (λ q. rw (getD-set-other lines i n r 0 (eqb-false n i q)) (w .few n));
+        known = λ n l. by-cases (eqb n i)
+            (λ q. rw (eqb-true n i q, getD-set-same lines i r 0 (omega (arith, w .size))) k)
+            (λ q. rw (getD-set-other lines i n r 0 (eqb-false n i q)) (w .known n (omega (arith, eqb-false n i q))));
+        forwarded = rw (add-one i, ← w .forwarded, ← reach-forwarded (marked d u) s c i, ← k) m;
+      }

@@ -4,17 +4,27 @@ use mathlib.Core.Bool.{Bool, true, false}
 use mathlib.Core.List.{List, [], _∷_, _++_}
 use mathlib.Core.Path.{_≡_, refl, sym, ap, _∙_}
 use native.Mathlib.Omega.{arith}
+use lib.Dec.{eqb}
+use Rattle.coupler.proofs.StepLaws.{judged-fine, judged-refused}
 use Rattle.coupler.specs.Passing.{hopped, doesPass}
+use Rattle.coupler.specs.Step.{judgedBy}
+use Rattle.coupler.specs.declared.Judged.{Judged}
 use Rattle.coupler.specs.declared.Passage.{Passage}
+use Rattle.frame.specs.Order.{firstOf}
+use Rattle.frame.specs.declared.Refusal.{Refusal}
 use Rattle.site.specs.Letting.{passageAt}
 use Rattle.site.specs.Records.{recordsOf}
 use Rattle.site.specs.Stores.{Stores}
 use Rattle.tracer.proofs.Paths.{on-zero, before-on, before-off}
-use Rattle.tracer.specs.Lines.{mainSide, mainSides, isOn, before, Crossing, up, down, upOver, downOver}
-use Rattle.tracer.specs.Why.{handedOn, walked}
+use Rattle.tracer.specs.Lines.{mainSide, mainSides, isOn, before, Crossing, up, down, upOver, downOver, path}
+use Rattle.tracer.specs.Listing.{queryOf}
+use Rattle.tracer.specs.Tracing.{traceTests}
+use Rattle.tracer.specs.Why.{handedOn, walked, whyBy, whyOf, whyTests, answerWhy}
 use Rattle.tracer.specs.declared.Stop.{Stop}
 use Rattle.tracer.specs.declared.Walk.the-variants.{Going, Stopped}
 use Rattle.tracer.specs.declared.Walk.{Walk}
+use Rattle.coupler.specs.declared.Judged.the-variants.{Fine, Refused as NotFine}
+use Rattle.tracer.specs.declared.Explanation.the-variants.{Reached, NotReached, Refused as Unexplained}
 
 -- a line that is not on the way to 00h is not 00h
 pub not-zero : (n m : ℕ) → isOn n (mainSides m) ≡ false → n ≡ 0 → ⊥
@@ -59,3 +69,30 @@ module _ (st : Stores) (site : List ℕ) (group : Bool) (destination : ℕ) wher
   down-more w {main = main} from to e f m t r =
       rw (before-off to (mainSides from) (not-zero to from (sym e ∙ f)) (sym e ∙ f), ← m)
       (r ∙ rw t (sym (walked-append w (downOver (before (mainSides main) (mainSides from))) (down to ∷ []))))
+
+-- the whole explanation: refused as the trace is, or the walk over the path
+module _ (st : Stores) (site : List ℕ) (start kind destination count line : ℕ) {judged : Judged}
+    (j : judged ≡ judgedBy (firstOf (traceTests st site (queryOf 0 kind 0 count) 768))) where
+  pub why-refused : (r : Refusal) → judged ≡ NotFine r → Unexplained r ≡ answerWhy st site (queryOf start kind destination count) line
+  unfolding answerWhy
+  why-refused r e = rw (judged-refused (firstOf (whyTests st site (queryOf start kind destination count))) r (sym e ∙ j)) refl
+
+  module _ (f : judged ≡ Fine) {joined walk : Walk}
+      (u : joined ≡ walked st site (eqb kind 1) destination (Going count) (upOver (before (mainSides start) (mainSides line))))
+      (d : walk ≡ walked st site (eqb kind 1) destination joined (downOver (before (mainSides line) (mainSides start)))) where
+    explained : answerWhy st site (queryOf start kind destination count) line ≡ whyBy walk
+    unfolding answerWhy whyOf path
+    explained =
+        let way = upOver (before (mainSides start) (mainSides line)) in
+        let back = downOver (before (mainSides line) (mainSides start)) in
+        let whole : walked st site (eqb kind 1) destination (Going count) (way ++ back) ≡ walk =
+            walked-append st site (eqb kind 1) destination (Going count) way back
+            ∙ ap (λ (w : Walk). walked st site (eqb kind 1) destination w back) (sym u) ∙ sym d in
+        rw (judged-fine (firstOf (whyTests st site (queryOf start kind destination count))) (sym f ∙ j))
+        (ap whyBy whole)
+
+    pub why-reached : (k : ℕ) → walk ≡ Going k → Reached ≡ answerWhy st site (queryOf start kind destination count) line
+    why-reached k e = sym (explained ∙ ap whyBy e)
+
+    pub why-not-reached : (stop : Stop) → walk ≡ Stopped stop → NotReached stop ≡ answerWhy st site (queryOf start kind destination count) line
+    why-not-reached stop e = sym (explained ∙ ap whyBy e)

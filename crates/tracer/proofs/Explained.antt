@@ -1,0 +1,169 @@
+-- What the explanation says: a line is reached exactly if it is listed; otherwise every coupler before the one named is fitted and lets the
+-- telegram pass, and that one does not hand it on, for the reason given. The walk carries the count, the list the couplers crossed.
+use Prim.Native.Nat.{ℕ, suc, _-_, _≤_}
+use mathlib.Core.Bool.{Bool, true, false, not, _&&_}
+use mathlib.Core.List.{List, [], _∷_, _++_}
+use mathlib.Core.Logic.{_↔_}
+use mathlib.Core.Path.{_≡_, refl, sym, ap, _∙_}
+use native.Mathlib.Omega.{arith}
+use lib.Dec.{ltb, leb, eqb}
+use borrow.Author.Tests.{leb-true, leb-false, eqb-true, eqb-false, lt-ltb, le-leb, eq-eqb, ne-eqb}
+use Rattle.coupler.specs.Passing.{hopped, doesPass}
+use Rattle.coupler.specs.declared.Passage.{Passage}
+use Rattle.octets.proofs.Below.{and-true}
+use Rattle.site.proofs.LettingLaws.{passage-lets}
+use Rattle.site.specs.Letting.{passageAt}
+use Rattle.site.specs.Records.{recordsOf}
+use Rattle.site.specs.Stores.{Stores}
+use Rattle.tracer.proofs.Paths.{by-cases}
+use Rattle.tracer.proofs.ReachingLaws.{along-zero, reach-reached}
+use Rattle.tracer.specs.Lines.{Crossing, path}
+use Rattle.tracer.specs.Listing.{Query, letsPass, allPass, lasts, isListed, onArrival}
+use Rattle.tracer.specs.Reaching.{handed, along, reach}
+use Rattle.tracer.specs.Why.{walked, whyBy, whyOf}
+use Rattle.tracer.specs.declared.Explanation.the-variants.{Reached, NotReached}
+use Rattle.tracer.specs.declared.Stop.{Stop}
+use Rattle.tracer.specs.declared.Walk.the-variants.{Going, Stopped}
+use Rattle.tracer.specs.declared.Walk.{Walk}
+
+abbrev pub isGoing : Walk → Bool
+isGoing (Going count) = true
+isGoing (Stopped stop) = false
+
+-- "7, or c minus d": what is left is not used up exactly if the count lasts for one coupler more
+left-lasts : (c d : ℕ) → lasts c d ≡ true → not (eqb (onArrival c d) 0) ≡ lasts c (suc d)
+unfolding lasts onArrival
+left-lasts c d e =
+    by-cases (eqb c 7)
+    (λ s. rw s refl)
+    (λ s.
+    let h : d ≤ c = leb-true d c (rw s at e) in
+    by-cases (leb (suc d) c)
+    (λ l. rw (s, l, ne-eqb (c - d) 0 (λ z. omega (arith, leb-true (suc d) c l))) refl)
+    (λ l. rw (s, l, eq-eqb (c - d) 0 (omega (arith, leb-false (suc d) c l))) refl))
+
+left-hopped : (c d : ℕ) → c ≤ 7 → lasts c (suc d) ≡ true → hopped (onArrival c d) ≡ onArrival c (suc d)
+unfolding lasts onArrival
+left-hopped c d m e =
+    by-cases (eqb c 7)
+    (λ s. rw s refl)
+    (λ s.
+    let h : suc d ≤ c = leb-true (suc d) c (rw s at e) in
+    rw (s, ne-eqb (c - d) 7 (λ z. eqb-false c 7 s (omega arith))) (omega arith))
+
+stopped-stays : (st : Stores) (site : List ℕ) (group : Bool) (destination : ℕ) (stop : Stop) (xs : List Crossing)
+    → walked st site group destination (Stopped stop) xs ≡ Stopped stop
+stopped-stays st site group destination stop [] = refl
+stopped-stays st site group destination stop (x ∷ xs) = stopped-stays st site group destination stop xs
+
+module _ (st : Stores) (site : List ℕ) (q : Query) (m : q .count ≤ 7) where
+  abbrev walk : Walk → List Crossing → Walk
+  walk w xs = walked st site (eqb (q .kind) 1) (q .destination) w xs
+
+  abbrev passage : Crossing → ℕ → Passage
+  passage x count = passageAt st (eqb (q .kind) 1) (q .destination) (recordsOf site) (x .direction) (x .line) count
+
+  -- after d couplers, with the count that is left
+  going : (d : ℕ) (xs : List Crossing) → lasts (q .count) d ≡ true
+      → isGoing (walk (Going (onArrival (q .count) d)) xs) ≡ ltb 0 (along (letsPass st site q) (q .count) (suc d) xs)
+  unfolding handed
+  going d [] e = sym (lt-ltb 0 (suc d) (omega arith))
+  going d (x ∷ xs) e =
+      let p = passage x (onArrival (q .count) d) in
+      let f = letsPass st site q x in
+      let k : doesPass p ≡ f && lasts (q .count) (suc d) =
+          passage-lets st (eqb (q .kind) 1) (q .destination) (recordsOf site) (x .direction) (x .line) (onArrival (q .count) d)
+          ∙ ap (λ (b : Bool). f && b) (left-lasts (q .count) d e) in
+      by-cases (f && lasts (q .count) (suc d))
+      (λ t.
+      let l : lasts (q .count) (suc d) ≡ true = and-true f (lasts (q .count) (suc d)) t .1 in
+      rw (k, lt-ltb 0 (suc d) (omega arith), t, left-hopped (q .count) d m l) (going (suc d) xs l))
+      (λ n.
+      rw (k, lt-ltb 0 (suc d) (omega arith), n)
+      (ap isGoing (stopped-stays st site (eqb (q .kind) 1) (q .destination) (record { coupler = x .line; direction = x .direction; reason = p }) xs)
+      ∙ sym (ap (λ (l : ℕ). ltb 0 l) (along-zero (letsPass st site q) (q .count) xs))))
+
+  from-start : (c : ℕ) → (lasts c 0 ≡ true) × (onArrival c 0 ≡ c)
+  unfolding lasts onArrival
+  from-start c =
+      by-cases (eqb c 7)
+      (λ s. (rw s refl, rw s (sym (eqb-true c 7 s))))
+      (λ s. (rw (s, le-leb 0 c (omega arith)) refl, rw s (omega arith)))
+
+  going-listed : (line : ℕ) → isGoing (walk (Going (q .count)) (path (q .start) line)) ≡ isListed (letsPass st site q) (q .start) (q .count) line
+  unfolding reach
+  going-listed line =
+      ap (λ (c : ℕ). isGoing (walk (Going c) (path (q .start) line))) (sym (from-start (q .count) .1))
+      ∙ going 0 (path (q .start) line) (from-start (q .count) .0)
+      ∙ reach-reached (letsPass st site q) (q .start) (q .count) line
+
+  reached-going : (w : Walk) → whyBy w ≡ Reached → isGoing w ≡ true
+  reached-going (Going count) e = refl
+  reached-going (Stopped stop) e = let z : _≡_ {A = ℕ} 0 1 = cc in absurd (omega arith)
+
+  going-reached : (w : Walk) → isGoing w ≡ true → whyBy w ≡ Reached
+  going-reached (Going count) e = refl
+  going-reached (Stopped stop) e = let z : _≡_ {A = ℕ} 0 1 = cc in absurd (omega arith)
+
+  -- "'reached' exactly for the listed lines"
+  pub reached-iff : (line : ℕ) → whyOf st site q line ≡ Reached ↔ (isListed (letsPass st site q) (q .start) (q .count) line ≡ true)
+  unfolding whyOf
+  reached-iff line =
+      let w = walk (Going (q .count)) (path (q .start) line) in
+      ((λ e. sym (going-listed line) ∙ reached-going w e), (λ e. going-reached w (going-listed line ∙ e)))
+
+  -- where and why a walk over a path stopped: the couplers before it let the telegram pass, and it comes there with this count
+  pub record StoppedAt (xs : List Crossing) (stop : Stop) : Type 0 where
+    pub ahead : List Crossing
+    pub here : Crossing
+    pub behind : List Crossing
+    pub count : ℕ
+    pub place : xs ≡ ahead ++ (here ∷ behind)
+    pub pass : allPass (letsPass st site q) ahead ≡ true
+    pub named : (stop .coupler ≡ here .line) × (stop .direction ≡ here .direction)
+    pub reason : stop .reason ≡ passage here count
+    pub stops : doesPass (passage here count) ≡ false
+
+  -- "all couplers before the one it names are fitted and pass, and that one does not, for the reason given"
+  pub stopped-at : (k : ℕ) (xs : List Crossing) (stop : Stop) → walk (Going k) xs ≡ Stopped stop → StoppedAt xs stop
+  stopped-at k [] stop e = let z : _≡_ {A = ℕ} 0 1 = cc in absurd (omega arith)
+  stopped-at k (x ∷ xs) stop e =
+      by-cases (doesPass (passage x k))
+      (λ t.
+      let s = stopped-at (hopped k) xs stop (rw t at e) in
+      let l : letsPass st site q x ≡ true =
+          and-true (letsPass st site q x) (not (eqb k 0)) (sym (passage-lets st (eqb (q .kind) 1) (q .destination) (recordsOf site) (x .direction) (x .line) k) ∙ t) .0 in
+      record {
+        ahead = x ∷ s .ahead;
+        here = s .here;
+        behind = s .behind;
+        count = s .count;
+        place = ap (λ (l : List Crossing). x ∷ l) (s .place);
+        pass = rw l (s .pass);
+        named = s .named;
+        reason = s .reason;
+        stops = s .stops;
+      })
+      (λ n.
+      let f : Stopped (record { coupler = x .line; direction = x .direction; reason = passage x k }) ≡ Stopped stop =
+          sym (stopped-stays st site (eqb (q .kind) 1) (q .destination) (record { coupler = x .line; direction = x .direction; reason = passage x k }) xs) ∙ (rw n at e) in
+      let g : stop ≡ record { coupler = x .line; direction = x .direction; reason = passage x k } = cc in
+      record {
+        ahead = [];
+        here = x;
+        behind = xs;
+        count = k;
+        place = refl;
+        pass = refl;
+        named = (ap (λ (s : Stop). s .coupler) g, ap (λ (s : Stop). s .direction) g);
+        reason = ap (λ (s : Stop). s .reason) g;
+        stops = n;
+      })
+
+  stop-of : (w : Walk) (stop : Stop) → whyBy w ≡ NotReached stop → w ≡ Stopped stop
+  stop-of (Going count) stop e = let z : _≡_ {A = ℕ} 0 1 = cc in absurd (omega arith)
+  stop-of (Stopped s) stop e = let h : s ≡ stop = cc in ap Stopped h
+
+  pub not-reached : (line : ℕ) (stop : Stop) → whyOf st site q line ≡ NotReached stop → StoppedAt (path (q .start) line) stop
+  unfolding whyOf
+  not-reached line stop e = stopped-at (q .count) (path (q .start) line) stop (stop-of (walk (Going (q .count)) (path (q .start) line)) stop e)

@@ -1,0 +1,154 @@
+-- The marks of the couplers, how the telegram spreads over them and the list of the lines reached, put together: that list is the
+-- definition's. Marks are known of the lines below 256, and a path between two of those crosses no other coupler.
+use Prim.Native.Nat.{ℕ, zero, suc, _-_, _≤_, _<_}
+use mathlib.Core.Bool.{Bool, true, _&&_}
+use mathlib.Core.List.{List, [], _∷_, _++_}
+use mathlib.Core.Path.{_≡_, refl, sym, ap, _∙_}
+use native.Mathlib.Omega.{arith}
+use lib.Dec.{eqb}
+use lib.ListN.{length, getD}
+use borrow.Author.Tests.{ltb-false}
+use Rattle.coupler.proofs.StepLaws.{judged-fine, judged-refused}
+use Rattle.coupler.specs.Step.{judgedBy}
+use Rattle.coupler.specs.declared.Judged.{Judged}
+use Rattle.frame.proofs.Order.{passed-iff}
+use Rattle.frame.specs.Order.{Test, firstOf}
+use Rattle.frame.specs.Refusals.{number}
+use Rattle.frame.specs.declared.Refusal.{Refusal}
+use Rattle.octets.specs.Room.{over}
+use Rattle.site.specs.Letting.{lets, Marks}
+use Rattle.site.specs.Records.{recordsOf}
+use Rattle.site.specs.Stores.{Stores}
+use Rattle.tracer.proofs.Paths.{by-cases, main-below, by-mains, on-zero, before-on, before-off}
+use Rattle.tracer.proofs.ReachingLaws.{reach-listed, reach-reached}
+use Rattle.tracer.specs.Lines.{mainSides, isOn, before, Crossing, up, down, upOver, downOver, path, distance}
+use Rattle.tracer.specs.Listing.{Query, queryOf, letsPass, allPass, isListed, entry, eachBelow, countBelow, listed, linesListed, isForwardedTo, forwardings}
+use Rattle.tracer.specs.Reaching.{reach, marked, Spread, isReached, entryBy}
+use Rattle.tracer.specs.Tracing.{traceTests, DidList, DidTrace}
+use Rattle.tracer.specs.declared.Traced.{Traced}
+use Rattle.coupler.specs.declared.Judged.the-variants.{Fine, Refused as NotFine}
+
+each-same : (f g : ℕ → List ℕ) (n : ℕ) → ((i : ℕ) → i < n → f i ≡ g i) → eachBelow f n ≡ eachBelow g n
+each-same f g zero h = refl
+each-same f g (suc n) h = rw (each-same f g n (λ i l. h i (omega arith)), h n (omega arith)) refl
+
+count-same : (f g : ℕ → Bool) (n : ℕ) → ((i : ℕ) → i < n → f i ≡ g i) → countBelow f n ≡ countBelow g n
+count-same f g zero h = refl
+count-same f g (suc n) h = rw (count-same f g n (λ i l. h i (omega arith)), h n (omega arith)) refl
+
+-- a line whose number is known
+module _ (f : Crossing → Bool) (s c t : ℕ) (lines : List ℕ) (e : getD lines t 0 ≡ reach f s c t) where
+  reached-listed : isReached lines t ≡ isListed f s c t
+  unfolding isReached
+  reached-listed = rw e (reach-reached f s c t)
+
+  entry-by : entryBy c lines t ≡ entry f s c t
+  unfolding entryBy entry
+  entry-by =
+      let q : isListed f s c t ≡ true → getD lines t 0 - 1 ≡ distance s t = λ h. omega (arith, e, rw h at (reach-listed f s c t)) in
+      rw reached-listed (by-cases (isListed f s c t) (λ h. rw (h, q h) refl) (λ h. rw h refl))
+
+all-append : (f : Crossing → Bool) (p q : List Crossing) → allPass f (p ++ q) ≡ allPass f p && allPass f q
+all-append f [] q = refl
+all-append f (x ∷ p) q = by-cases (f x) (λ e. rw e (all-append f p q)) (λ e. rw e refl)
+
+-- two tests that agree at every coupler of a line below 256
+module _ (f g : Crossing → Bool) (downs : (n : ℕ) → n < 256 → f (down n) ≡ g (down n)) (ups : (n : ℕ) → n < 256 → f (up n) ≡ g (up n)) where
+  up-same : (others : List ℕ) → isOn 0 others ≡ true → (n : ℕ) → n < 256
+      → allPass f (upOver (before (mainSides n) others)) ≡ allPass g (upOver (before (mainSides n) others))
+  up-same others z =
+      by-mains (λ n. n < 256 → allPass f (upOver (before (mainSides n) others)) ≡ allPass g (upOver (before (mainSides n) others)))
+      (λ l. rw (before-on 0 others z) refl)
+      (λ n h ih l. by-cases (isOn n others)
+          (λ e. rw (before-on n others e) refl)
+          (λ e. rw (before-off n others h e, ups n l, ih (omega (arith, main-below n h))) refl))
+
+  down-same : (others : List ℕ) → isOn 0 others ≡ true → (n : ℕ) → n < 256
+      → allPass f (downOver (before (mainSides n) others)) ≡ allPass g (downOver (before (mainSides n) others))
+  down-same others z =
+      by-mains (λ n. n < 256 → allPass f (downOver (before (mainSides n) others)) ≡ allPass g (downOver (before (mainSides n) others)))
+      (λ l. rw (before-on 0 others z) refl)
+      (λ n h ih l. by-cases (isOn n others)
+          (λ e. rw (before-on n others e) refl)
+          (λ e. rw (before-off n others h e, all-append f, all-append g, downs n l, ih (omega (arith, main-below n h))) refl))
+
+  module _ (s c : ℕ) (hs : s < 256) where
+    listed-same : (t : ℕ) → t < 256 → isListed f s c t ≡ isListed g s c t
+    unfolding isListed path
+    listed-same t ht =
+        rw (all-append f, all-append g, up-same (mainSides t) (on-zero t) s hs, down-same (mainSides s) (on-zero s) t ht) refl
+
+    entry-same : (t : ℕ) → t < 256 → entry f s c t ≡ entry g s c t
+    unfolding entry
+    entry-same t ht = rw (listed-same t ht) refl
+
+    forwarded-same : (t : ℕ) → t < 256 → isForwardedTo f s c t ≡ isForwardedTo g s c t
+    unfolding isForwardedTo
+    forwarded-same t ht = rw (listed-same t ht) refl
+
+by-three : {l l′ f f′ : ℕ} → l ≡ l′ → f ≡ f′ → _≡_ {A = Traced} (record { number = 0; lines = l; forwardings = f }) (record { number = 0; lines = l′; forwardings = f′ })
+by-three a b = rw (a, b) refl
+
+-- what the tracer's three steps ensure
+module _ (st : Stores) (site : List ℕ) (q : Query) {downward upward : List Bool} (small : q .start < 256)
+    (d : Marks (lets st (eqb (q .kind) 1) (q .destination) (recordsOf site) 0) downward)
+    (u : Marks (lets st (eqb (q .kind) 1) (q .destination) (recordsOf site) 1) upward) where
+  abbrev asked : Crossing → Bool
+  asked = letsPass st site q
+
+  downs : (n : ℕ) → n < 256 → marked downward upward (down n) ≡ asked (down n)
+  unfolding marked
+  downs = d .each
+
+  ups : (n : ℕ) → n < 256 → marked downward upward (up n) ≡ asked (up n)
+  unfolding marked
+  ups = u .each
+
+  module _ {reached : List ℕ} {made : ℕ} (w : Spread (marked downward upward) (q .start) (q .count) reached made) where
+    counted : countBelow (isReached reached) 256 ≡ linesListed st site q
+    unfolding linesListed
+    counted =
+        count-same (isReached reached) (isListed asked (q .start) (q .count)) 256
+        (λ i h. reached-listed (marked downward upward) (q .start) (q .count) i reached (w .each i h) ∙ listed-same (marked downward upward) asked downs ups (q .start) (q .count) small i h)
+
+    entries : eachBelow (entryBy (q .count) reached) 256 ≡ listed st site q
+    unfolding listed
+    entries =
+        each-same (entryBy (q .count) reached) (entry asked (q .start) (q .count)) 256
+        (λ i h. entry-by (marked downward upward) (q .start) (q .count) i reached (w .each i h) ∙ entry-same (marked downward upward) asked downs ups (q .start) (q .count) small i h)
+
+    handed-on : made ≡ forwardings st site q
+    unfolding forwardings
+    handed-on =
+        w .forwarded
+        ∙ count-same (isForwardedTo (marked downward upward) (q .start) (q .count)) (isForwardedTo asked (q .start) (q .count)) 256 (forwarded-same (marked downward upward) asked downs ups (q .start) (q .count) small)
+
+    pub listed-by : {lines : ℕ} {room room′ : List ℕ} → (lines ≡ countBelow (isReached reached) 256) × (room′ ≡ over (eachBelow (entryBy (q .count) reached) 256) room)
+        → DidList st site q room (record { number = 0; lines = lines; forwardings = made }) room′
+    listed-by {lines} {room} l =
+        record {
+          answered = by-three (l .0 ∙ counted) handed-on;
+          left = l .1 ∙ ap (λ (o : List ℕ). over o room) entries;
+        }
+
+-- the verdict, and by it the refusal or the list
+module _ (st : Stores) (site : List ℕ) (kind count : ℕ) (room : List ℕ) {judged : Judged}
+    (j : judged ≡ judgedBy (firstOf (traceTests st site (queryOf 0 kind 0 count) (length room)))) where
+  abbrev tests : List Test
+  tests = traceTests st site (queryOf 0 kind 0 count) (length room)
+
+  pub trace-room : judged ≡ Fine → 768 ≤ length room
+  trace-room e = ltb-false (length room) 768 (passed-iff tests .0 (judged-fine (firstOf tests) (sym e ∙ j)) .1 .0)
+
+  module _ (start destination : ℕ) where
+    pub trace-refused : (r : Refusal) {n : ℕ} → judged ≡ NotFine r → n ≡ number r
+        → DidTrace st site (queryOf start kind destination count) room (record { number = n; lines = 0; forwardings = 0 }) room
+    trace-refused r e n =
+        let v = judged-refused (firstOf tests) r (sym e ∙ j) in
+        record { answered = rw (v, n) refl; left = rw v refl }
+
+    pub trace-listed : {answer : Traced} {room′ : List ℕ} → judged ≡ Fine → DidList st site (queryOf start kind destination count) room answer room′
+        → DidTrace st site (queryOf start kind destination count) room answer room′
+    trace-listed e l =
+        let v = judged-fine (firstOf tests) (sym e ∙ j) in
+        record { answered = rw v (l .answered); left = rw v (l .left) }
