@@ -4,3 +4,4 @@ pub mod Line
 pub mod List
 pub mod Size
 pub mod Notation
+pub mod ReportLaws

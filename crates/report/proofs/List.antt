@@ -68,4 +68,4 @@ module _ {list room₀ room : List ℕ} {at from : ℕ} (x : Rest list room₀ r
       let f : at + length (listText (drop from list)) ≤ length room = x .fits in
       let n : at + length (listText (drop from list)) ≡ length (listText list) = x .ends in
       let r : laid (listText (drop from list)) at room ≡ laid (listText list) 0 room₀ = x .rest in
-      record { ends = omega (arith, rw e at n); put = sym (laid-none at room (omega arith)) ∙ rw e at r }
+      record { fits = omega (arith, x .same); ends = omega (arith, rw e at n); put = sym (laid-none at room (omega arith)) ∙ rw e at r }

@@ -39,4 +39,4 @@ module _ (a b : List ℕ) (at : ℕ) (room : List ℕ) (h : Fits (a ++ b) at roo
 
     pub puts-then : {r₂ : ℕ} {room₂ : List ℕ} → Puts b r₁ room₁ r₂ room₂ → Puts (a ++ b) at room r₂ room₂
     puts-then y =
-        record { ends = rw (y .ends, x .ends, length-append) (omega arith); put = y .put ∙ rw (x .ends, x .put) laid-then }
+        record { fits = h; ends = rw (y .ends, x .ends, length-append) (omega arith); put = y .put ∙ rw (x .ends, x .put) laid-then }

@@ -32,11 +32,13 @@ length-line : (line count crossed : ℕ) → line < 256 → count < 256 → cros
 unfolding lineText
 length-line line count crossed a b c =
     rw (length-append, length-append, length-append, length-append)
-    (omega (arith,
+    (omega (
+      arith,
       length-decimal 1 (line / 16) (omega arith),
       length-told (ascii ".") 1 (line % 16) (omega arith),
       length-told (ascii " count ") 2 count (omega arith),
-      length-told (ascii " crossed ") 2 crossed (omega arith)))
+      length-told (ascii " crossed ") 2 crossed (omega arith),
+    ))
 
 pub length-list : (s : List ℕ) → Octets s → length (listText s) ≤ length s * 10
 length-list [] o = omega arith

@@ -40,10 +40,11 @@ listText (line ∷ []) = []
 listText (line ∷ count ∷ []) = []
 listText (line ∷ count ∷ crossed ∷ rest) = lineText line count crossed ++ listText rest
 
--- text put into a room from an index on, and the index behind it
-pub record Puts (text : List ℕ) (at : ℕ) (room : List ℕ) (behind : ℕ) (after : List ℕ) : Type 0 where
-  pub ends : behind ≡ at + length text
-  pub put : after ≡ laid text at room
-
 abbrev pub Fits : List ℕ → ℕ → List ℕ → Type 0
 Fits text at room = at + length text ≤ length room
+
+-- text put into a room from an index on, whole, and the index behind it
+pub record Puts (text : List ℕ) (at : ℕ) (room : List ℕ) (behind : ℕ) (after : List ℕ) : Type 0 where
+  pub fits : Fits text at room
+  pub ends : behind ≡ at + length text
+  pub put : after ≡ laid text at room
