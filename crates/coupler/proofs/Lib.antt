@@ -1,3 +1,4 @@
 pub mod StepLaws
+pub mod Refusals
 pub mod Promised
 pub mod PassingLaws

@@ -1,0 +1,152 @@
+-- Each refusal of the settings exactly in its listed case, then the reader's, then an accepted frame: corollaries of the law of tests in
+-- order. Neither reader gives 15, 18, 14 or 13, and the outcome's number tells the refusals apart.
+use Prim.Native.Nat.{ℕ}
+use mathlib.Core.Bool.{Bool, true, false, cond, not, _&&_, _||_}
+use mathlib.Core.List.{List, [], _∷_, _++_}
+use mathlib.Core.Logic.{_↔_}
+use mathlib.Core.Path.{_≡_, refl, sym, ap, _∙_}
+use native.Mathlib.Omega.{arith}
+use lib.Dec.{ltb, eqb}
+use lib.ListN.{length, take, drop}
+use borrow.Author.Tests.{eqb-false}
+use Rattle.cemi.specs.declared.CemiAnswer.{CemiAnswer}
+use Rattle.coupler.proofs.StepLaws.{refused-number}
+use Rattle.coupler.specs.Settings.{areCodes, tableFits}
+use Rattle.coupler.specs.Step.{Setting, settingTests, fromIp, Heard, heardTp1, heardIp, readBy, after, heard, outcomeOf, frame, nothing}
+use Rattle.frame.proofs.Order.{passed-iff, refused-iff as order-iff, givesNot, once-iff, first-refused, answer-iff, refusal-once}
+use Rattle.frame.specs.Order.{Test, Verdict, firstOf, answerBy, NoneOf, _gives_, pass, refuse}
+use Rattle.frame.specs.Refusals.{number}
+use Rattle.frame.specs.declared.Meaning.{Meaning}
+use Rattle.frame.specs.declared.Refusal.the-variants.{TooFew, NotData, OtherFormat, Escape, LeftOver, WrongCheck, OtherCode, InformationEscape, LongStandard, OtherHeader, OtherService, OtherLength, SmallRoom, OutOfRange, WrongSetting, WrongRecord, LineTwice, NoTable}
+use Rattle.frame.specs.declared.Refusal.{Refusal}
+use Rattle.routing.specs.Reading.{routingTests, readRouting, routedPayload}
+use Rattle.tp1.specs.Reading.{tp1Tests, readTp1, payloadIn}
+use Rattle.tp1.specs.declared.Tp1Answer.{Tp1Answer}
+use Rattle.cemi.specs.declared.CemiAnswer.the-variants.{Frame as Message-is, Refused as Message-not}
+use Rattle.routing.proofs.Refusals.{refused-iff as routing-refused-iff}
+use Rattle.tp1.proofs.Refusals.{refused-iff as tp1-refused-iff}
+use Rattle.tp1.specs.declared.Tp1Answer.the-variants.{Frame, Refused as Unread}
+
+refusal-apart : (q r : Refusal) → nothing q ≡ nothing r → q ≡ r
+refusal-apart q r e = cc
+
+frame-refused : (m : Meaning) (p : List ℕ) (r : Refusal) → nothing r ≡ frame m p → ⊥
+frame-refused m p r e = let z : _≡_ {A = ℕ} 0 1 = cc in absurd (omega arith)
+
+-- what no test gives is never given
+never : (ts : List Test) (r : Refusal) → givesNot ts r ≡ true → firstOf ts ≡ refuse r → ⊥
+never ts r g e =
+    let h : false ≡ true = once-iff ts [] false r g refl .0 (first-refused ts (false gives r ∷ []) r e) .1 in
+    let z : _≡_ {A = ℕ} 0 1 = cc in
+    absurd (omega arith)
+
+never-read : (b : Bool) (s : List ℕ) (r : Refusal) → givesNot (tp1Tests s) r ≡ true → givesNot (routingTests s) r ≡ true → nothing r ≡ readBy b s → ⊥
+never-read b s r g h e = by b e
+  where
+    by-tp1 : (a : Tp1Answer) → readTp1 s ≡ a → nothing r ≡ heardTp1 a s → ⊥
+    by-tp1 (Frame m) q z = frame-refused m (payloadIn (Frame m) s) r z
+    by-tp1 (Unread x) q z = never (tp1Tests s) r g (order-iff (tp1Tests s) r .1 (tp1-refused-iff s r .0 (q ∙ ap Unread (refusal-apart x r (sym z)))))
+
+    by-ip : (a : CemiAnswer) → readRouting s ≡ a → nothing r ≡ heardIp a s → ⊥
+    by-ip (Message-is x) q z = frame-refused (x .meaning) (routedPayload (Message-is x) s) r z
+    by-ip (Message-not x) q z = never (routingTests s) r h (order-iff (routingTests s) r .1 (routing-refused-iff s r .0 (q ∙ ap Message-not (refusal-apart x r (sym z)))))
+
+    by : (b : Bool) → nothing r ≡ readBy b s → ⊥
+    by true z = by-ip (readRouting s) refl z
+    by false z = by-tp1 (readTp1 s) refl z
+
+-- the settings' word, then the reader's: an answer by a verdict
+after-answer : (v : Verdict) (h : Heard) → after v h ≡ answerBy nothing h v
+after-answer pass h = refl
+after-answer (refuse r) h = refl
+
+behind-iff : (ts : List Test) (h : Heard) (r : Refusal) → givesNot ts r ≡ true → answerBy nothing h (firstOf ts) ≡ nothing r ↔ (NoneOf ts × (h ≡ nothing r))
+behind-iff ts h r g = (go (firstOf ts) refl, λ x. ap (answerBy nothing h) (passed-iff ts .1 (x .0)) ∙ x .1)
+  where
+    go : (v : Verdict) → firstOf ts ≡ v → answerBy nothing h v ≡ nothing r → NoneOf ts × (h ≡ nothing r)
+    go pass q e = (passed-iff ts .0 q, e)
+    go (refuse x) q e = absurd (never ts r g (q ∙ ap refuse (refusal-apart x r e)))
+
+module _ (k : Setting) (s : List ℕ) (room : ℕ) where
+  answered : heard k s room ≡ answerBy nothing (readBy (fromIp k) s) (firstOf (settingTests k room))
+  unfolding heard
+  answered = after-answer (firstOf (settingTests k room)) (readBy (fromIp k) s)
+
+  -- a frame is accepted exactly if no test of the settings is true and the reader accepts it
+  pub accepted-iff : (m : Meaning) (p : List ℕ) → heard k s room ≡ frame m p ↔ (NoneOf (settingTests k room) × (readBy (fromIp k) s ≡ frame m p))
+  accepted-iff m p = rw answered (answer-iff nothing refusal-apart (settingTests k room) (readBy (fromIp k) s) (frame m p) (frame-refused m p))
+
+  -- ", then the reader's": a refusal that is none of the settings' is the reader's
+  pub reader-iff : (r : Refusal) → givesNot (settingTests k room) r ≡ true → heard k s room ≡ nothing r ↔ (NoneOf (settingTests k room) × (readBy (fromIp k) s ≡ nothing r))
+  reader-iff r g = rw answered (behind-iff (settingTests k room) (readBy (fromIp k) s) r g)
+
+  once-at : (ts us : List Test) (b : Bool) (r : Refusal) → settingTests k room ≡ ts ++ (b gives r ∷ us) → givesNot ts r ≡ true → givesNot us r ≡ true
+      → givesNot (tp1Tests s) r ≡ true → givesNot (routingTests s) r ≡ true → heard k s room ≡ nothing r ↔ (NoneOf ts × (b ≡ true))
+  once-at ts us b r e g h i j = rw (answered ∙ ap (λ (l : List Test). answerBy nothing (readBy (fromIp k) s) (firstOf l)) e) (refusal-once nothing refusal-apart ts us b (readBy (fromIp k) s) r (never-read (fromIp k) s r i j) g h)
+
+  -- "Order: 15, 18 .., 14 .., 13 (room below 272)": each exactly if its test is true and none before it is
+  pub refused-15 : heard k s room ≡ nothing WrongSetting ↔ (eqb (k .line) 0 || not (areCodes (k .codes)) ≡ true)
+  refused-15 = let w = once-at [] (drop 1 (settingTests k room)) _ WrongSetting refl refl refl refl refl in ((λ e. w .0 e .1), λ x. w .1 (tt, x))
+
+  pub refused-18 : heard k s room ≡ nothing NoTable ↔ (NoneOf (take 1 (settingTests k room)) × (not (tableFits (k .codes) (length (k .table))) ≡ true))
+  refused-18 = once-at (take 1 (settingTests k room)) (drop 2 (settingTests k room)) _ NoTable refl refl refl refl refl
+
+  pub refused-14 : heard k s room ≡ nothing OutOfRange ↔ (NoneOf (take 2 (settingTests k room)) × (not (ltb (k .side) 2 && ltb (k .medium) 2) ≡ true))
+  refused-14 = once-at (take 2 (settingTests k room)) (drop 3 (settingTests k room)) _ OutOfRange refl refl refl refl refl
+
+  pub refused-13 : heard k s room ≡ nothing SmallRoom ↔ (NoneOf (take 3 (settingTests k room)) × (ltb room 272 ≡ true))
+  refused-13 = once-at (take 3 (settingTests k room)) [] _ SmallRoom refl refl refl refl refl
+
+-- the refusal that has a number
+abbrev numbered : ℕ → Refusal
+numbered n =
+    cond (eqb n 1) TooFew
+    (cond (eqb n 2) NotData
+    (cond (eqb n 3) OtherFormat
+    (cond (eqb n 4) Escape
+    (cond (eqb n 5) LeftOver
+    (cond (eqb n 6) WrongCheck
+    (cond (eqb n 7) OtherCode
+    (cond (eqb n 8) InformationEscape
+    (cond (eqb n 9) LongStandard
+    (cond (eqb n 10) OtherHeader
+    (cond (eqb n 11) OtherService
+    (cond (eqb n 12) OtherLength
+    (cond (eqb n 13) SmallRoom
+    (cond (eqb n 14) OutOfRange
+    (cond (eqb n 15) WrongSetting
+    (cond (eqb n 16) WrongRecord
+    (cond (eqb n 17) LineTwice
+    NoTable))))))))))))))))
+
+numbered-back : (r : Refusal) → numbered (number r) ≡ r
+numbered-back TooFew = refl
+numbered-back NotData = refl
+numbered-back OtherFormat = refl
+numbered-back Escape = refl
+numbered-back LeftOver = refl
+numbered-back WrongCheck = refl
+numbered-back OtherCode = refl
+numbered-back InformationEscape = refl
+numbered-back LongStandard = refl
+numbered-back OtherHeader = refl
+numbered-back OtherService = refl
+numbered-back OtherLength = refl
+numbered-back SmallRoom = refl
+numbered-back OutOfRange = refl
+numbered-back WrongSetting = refl
+numbered-back WrongRecord = refl
+numbered-back LineTwice = refl
+numbered-back NoTable = refl
+
+number-apart : (q r : Refusal) → number q ≡ number r → q ≡ r
+number-apart q r e = sym (numbered-back q) ∙ ap numbered e ∙ numbered-back r
+
+-- the outcome's number is a refusal's exactly if that refusal was heard, and 0 exactly if none was
+pub number-iff : (k : Setting) (remembered : List ℕ) (h : Heard) (r : Refusal) → outcomeOf k remembered h .number ≡ number r ↔ (h ≡ nothing r)
+number-iff k remembered (frame m p) r = ((λ e. absurd (eqb-false (number r) 0 (refused-number r) (sym e))), λ e. absurd (frame-refused m p r (sym e)))
+number-iff k remembered (nothing q) r = ((λ e. ap nothing (number-apart q r e)), λ e. ap number (refusal-apart q r e))
+
+pub zero-iff : (k : Setting) (remembered : List ℕ) (h : Heard) → outcomeOf k remembered h .number ≡ 0 ↔ ((r : Refusal) → h ≡ nothing r → ⊥)
+zero-iff k remembered (frame m p) = ((λ e r z. frame-refused m p r (sym z)), λ f. refl)
+zero-iff k remembered (nothing r) = ((λ e. absurd (eqb-false (number r) 0 (refused-number r) e)), λ f. absurd (f r refl))
