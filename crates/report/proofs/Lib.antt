@@ -5,3 +5,4 @@ pub mod List
 pub mod Size
 pub mod Notation
 pub mod ReportLaws
+pub mod Shown

@@ -12,6 +12,7 @@ use Rattle.frame.specs.Refusals.{number}
 use Rattle.frame.specs.declared.Refusal.the-variants.{TooFew, NotData, OtherFormat, Escape, LeftOver, WrongCheck, OtherCode, InformationEscape, LongStandard, OtherHeader, OtherService, OtherLength, SmallRoom, OutOfRange, WrongSetting, WrongRecord, LineTwice, NoTable}
 use Rattle.frame.specs.declared.Refusal.{Refusal}
 use Rattle.frame.specs.declared.Written.the-variants.{Refused, Put}
+use Rattle.frame.specs.declared.Written.{Written}
 use Rattle.octets.proofs.Room.{laid-front}
 use Rattle.octets.proofs.Split.{rest-is}
 use Rattle.octets.specs.Octets.{octetAt, Octets}
@@ -148,3 +149,9 @@ roomed s room {r} h x =
     let f : 0 + length (reportOf s) ≤ length room = x .fits in
     let e : r ≡ 0 + length (reportOf s) = x .ends in
     record { answered = rw (le-ltb (length room) 8192 h) (ap Put (omega arith)); left = x .put ∙ laid-front (reportOf s) room (omega arith) }
+
+-- two outcomes that the contract allows coincide
+pub reported-one : {s room : List ℕ} {r₁ r₂ : Written} {a₁ a₂ : List ℕ} → Reported s room r₁ a₁ → Reported s room r₂ a₂ → (r₁ ≡ r₂) × (a₁ ≡ a₂)
+reported-one {s} {room} {r₁} {r₂} x y =
+    let e : r₁ ≡ r₂ = x .answered ∙ sym (y .answered) in
+    (e, x .left ∙ rw e (sym (y .left)))

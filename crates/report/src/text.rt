@@ -54,8 +54,8 @@ fn put_line(line: u8, count: u8, crossed: u8, at: usize, room: &mut [u8]) -> usi
     let area = put_decimal((line / 16) as usize, at, room);
     let named = put_told(b".", (line % 16) as usize, area, room);
     let counted = put_told(b" count ", count as usize, named, room);
-    let behind = put_told(b" crossed ", crossed as usize, counted, room);
-    put(b"\n", behind, room)
+    let told = put_told(b" crossed ", crossed as usize, counted, room);
+    put(b"\n", told, room)
 }
 
 // Every entry of three octets as a line.
