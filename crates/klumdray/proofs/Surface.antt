@@ -12,7 +12,10 @@ use Rattle.frame.specs.declared.Meaning.{Meaning}
 use Rattle.frame.specs.declared.Refusal.the-variants.{OutOfRange}
 use Rattle.frame.specs.declared.Written.{Written}
 use Rattle.klumdray.specs.Numbers.{flagsOf, meaningNumber, codeNumber, writtenNumber, Sized, WroteNumber}
+use Rattle.klumdray.specs.Traces.{TracedThrough}
 use Rattle.octets.proofs.Weigh.{weigh-most}
+use Rattle.site.specs.Stores.{Stores}
+use Rattle.tracer.specs.Listing.{Query}
 use Rattle.frame.specs.declared.Written.the-variants.{Put, Refused as Unwritten}
 
 -- a size that is written has a number
@@ -35,6 +38,9 @@ flags-refused flags ranged octets room f =
 -- two outcomes that the contract allows coincide
 pub wrote-number-one : {ranged : Bool} {octets room : List ℕ} {r₁ r₂ : ℕ} {a₁ a₂ : List ℕ} → WroteNumber ranged octets room r₁ a₁ → WroteNumber ranged octets room r₂ a₂ → (r₁ ≡ r₂) × (a₁ ≡ a₂)
 wrote-number-one x y = (x .answered ∙ sym (y .answered), x .left ∙ sym (y .left))
+
+pub traced-through-one : {st : Stores} {site : List ℕ} {q : Query} {room : List ℕ} {r₁ r₂ : ℕ} {a₁ a₂ : List ℕ} → TracedThrough st site q room r₁ a₁ → TracedThrough st site q room r₂ a₂ → (r₁ ≡ r₂) × (a₁ ≡ a₂)
+traced-through-one x y = (x .answered ∙ sym (y .answered), x .left ∙ sym (y .left))
 
 -- an answer's number has 59 bits
 

@@ -3,7 +3,9 @@ use mathlib.Core.Path.{_≡_, refl, sym, _∙_}
 use Rattle.octets.proofs.Part.{part-one}
 use Rattle.frame.proofs.Writing.{wrote-one}
 use Rattle.coupler.proofs.StepLaws.{handed-one, did-one}
-use Rattle.klumdray.proofs.Surface.{wrote-number-one}
+use Rattle.site.proofs.LettingLaws.{marks-one}
+use Rattle.tracer.proofs.ListedBy.{traced-one}
+use Rattle.klumdray.proofs.Surface.{wrote-number-one, traced-through-one}
 use Rattle.klumdray.proofs.BlockLaws.{stepped-one}
 use Rattle.promises.proofs.Stated.{Stated, StatedBy, SamePart}
 use Rattle.octets.proofs.octet.Kinds as octets-octet-kinds
@@ -94,6 +96,26 @@ use Rattle.klumdray.proofs.klumdray_routing_write.Kinds as klumdray-routing-wri
 use Rattle.klumdray.proofs.klumdray_routing_write.Reads as klumdray-routing-write-reads
 use Rattle.klumdray.proofs.klumdray_step.Kinds as klumdray-step-kinds
 use Rattle.klumdray.proofs.klumdray_step.Reads as klumdray-step-reads
+use Rattle.coupler.proofs.why_not.Kinds as coupler-why-not-kinds
+use Rattle.coupler.proofs.why_not.Reads as coupler-why-not-reads
+use Rattle.site.proofs.stores.table_of.Kinds as site-table-of-kinds
+use Rattle.site.proofs.stores.table_of.Reads as site-table-of-reads
+use Rattle.site.proofs.judge.Kinds as site-judge-kinds
+use Rattle.site.proofs.judge.Reads as site-judge-reads
+use Rattle.site.proofs.letting.Kinds as site-letting-kinds
+use Rattle.site.proofs.letting.Reads as site-letting-reads
+use Rattle.site.proofs.why_not.Kinds as site-why-not-kinds
+use Rattle.site.proofs.why_not.Reads as site-why-not-reads
+use Rattle.tracer.proofs.main_side.Kinds as tracer-main-side-kinds
+use Rattle.tracer.proofs.main_side.Reads as tracer-main-side-reads
+use Rattle.tracer.proofs.trace.Kinds as tracer-trace-kinds
+use Rattle.tracer.proofs.trace.Reads as tracer-trace-reads
+use Rattle.tracer.proofs.why.Kinds as tracer-why-kinds
+use Rattle.tracer.proofs.why.Reads as tracer-why-reads
+use Rattle.klumdray.proofs.klumdray_trace.Kinds as klumdray-trace-kinds
+use Rattle.klumdray.proofs.klumdray_trace.Reads as klumdray-trace-reads
+use Rattle.klumdray.proofs.klumdray_why.Kinds as klumdray-why-kinds
+use Rattle.klumdray.proofs.klumdray_why.Reads as klumdray-why-reads
 
 -- octets
 
@@ -203,6 +225,9 @@ coupler-table-fits-stated = record { determines = λ κs args r₁ r₂ w₁ w�
 pub coupler-may-pass-stated : Stated coupler-may-pass-kinds.ps coupler-may-pass-kinds.r coupler-may-pass-reads.Pre coupler-may-pass-reads.Post (λ κs a. coupler-may-pass-reads.ensures κs a tt)
 coupler-may-pass-stated = record { determines = λ κs args r₁ r₂ w₁ w₂ x y. (x ∙ sym y, refl); free = λ κs args. tt; whole = λ κs args r e w. refl }
 
+pub coupler-why-not-stated : Stated coupler-why-not-kinds.ps coupler-why-not-kinds.r coupler-why-not-reads.Pre coupler-why-not-reads.Post (λ κs a. coupler-why-not-reads.ensures κs a tt)
+coupler-why-not-stated = record { determines = λ κs args r₁ r₂ w₁ w₂ x y. (x ∙ sym y, refl); free = λ κs args. tt; whole = λ κs args r e w. refl }
+
 pub coupler-hopped-count-stated : Stated coupler-hopped-count-kinds.ps coupler-hopped-count-kinds.r coupler-hopped-count-reads.Pre coupler-hopped-count-reads.Post (λ κs a. coupler-hopped-count-reads.ensures κs a tt)
 coupler-hopped-count-stated = record { determines = λ κs args r₁ r₂ w₁ w₂ x y. (x ∙ sym y, refl); free = λ κs args. tt; whole = λ κs args r e w. refl }
 
@@ -214,6 +239,31 @@ coupler-nothing-remembered-stated = record { determines = λ κs args r₁ r₂ 
 
 pub coupler-step-stated : Stated coupler-step-kinds.ps coupler-step-kinds.r coupler-step-reads.Pre coupler-step-reads.Post (λ κs a. coupler-step-reads.ensures κs a tt)
 coupler-step-stated = record { determines = λ κs args r₁ r₂ w₁ w₂ x y. let e = did-one x y in ((λ i. record { outcome = e .0 i; memory = e .1 .0 i }), λ i. (tt, (tt, (tt, (tt, (tt, (tt, (tt, (e .1 .1 i, tt))))))))); free = λ κs args. tt; whole = λ κs args r e w. refl }
+
+-- site
+
+pub site-table-of-stated : StatedBy site-table-of-kinds.ps site-table-of-kinds.r (λ κs. SamePart) site-table-of-reads.Pre site-table-of-reads.Post (λ κs a. site-table-of-reads.ensures κs a tt)
+site-table-of-stated = record { determines = λ κs args r₁ r₂ w₁ w₂ x y. (part-one (x .table) (y .table), refl); free = λ κs args. tt; whole = λ κs args r e w. refl }
+
+pub site-judge-stated : Stated site-judge-kinds.ps site-judge-kinds.r site-judge-reads.Pre site-judge-reads.Post (λ κs a. site-judge-reads.ensures κs a tt)
+site-judge-stated = record { determines = λ κs args r₁ r₂ w₁ w₂ x y. (x ∙ sym y, refl); free = λ κs args. tt; whole = λ κs args r e w. refl }
+
+pub site-letting-stated : Stated site-letting-kinds.ps site-letting-kinds.r site-letting-reads.Pre site-letting-reads.Post (λ κs a. site-letting-reads.ensures κs a tt)
+site-letting-stated = record { determines = λ κs args r₁ r₂ w₁ w₂ x y. (marks-one x y, refl); free = λ κs args. tt; whole = λ κs args r e w. refl }
+
+pub site-why-not-stated : Stated site-why-not-kinds.ps site-why-not-kinds.r site-why-not-reads.Pre site-why-not-reads.Post (λ κs a. site-why-not-reads.ensures κs a tt)
+site-why-not-stated = record { determines = λ κs args r₁ r₂ w₁ w₂ x y. (x ∙ sym y, refl); free = λ κs args. tt; whole = λ κs args r e w. refl }
+
+-- tracer
+
+pub tracer-main-side-stated : Stated tracer-main-side-kinds.ps tracer-main-side-kinds.r tracer-main-side-reads.Pre tracer-main-side-reads.Post (λ κs a. tracer-main-side-reads.ensures κs a tt)
+tracer-main-side-stated = record { determines = λ κs args r₁ r₂ w₁ w₂ x y. (x ∙ sym y, refl); free = λ κs args. tt; whole = λ κs args r e w. refl }
+
+pub tracer-trace-stated : Stated tracer-trace-kinds.ps tracer-trace-kinds.r tracer-trace-reads.Pre tracer-trace-reads.Post (λ κs a. tracer-trace-reads.ensures κs a tt)
+tracer-trace-stated = record { determines = λ κs args r₁ r₂ w₁ w₂ x y. let e = traced-one x y in (e .0, λ i. (tt, (tt, (tt, (tt, (tt, (tt, (tt, (e .1 i, tt))))))))); free = λ κs args. tt; whole = λ κs args r e w. refl }
+
+pub tracer-why-stated : Stated tracer-why-kinds.ps tracer-why-kinds.r tracer-why-reads.Pre tracer-why-reads.Post (λ κs a. tracer-why-reads.ensures κs a tt)
+tracer-why-stated = record { determines = λ κs args r₁ r₂ w₁ w₂ x y. (x ∙ sym y, refl); free = λ κs args. tt; whole = λ κs args r e w. refl }
 
 -- klumdray
 
@@ -240,3 +290,9 @@ klumdray-routing-write-stated = record { determines = λ κs args r₁ r₂ w₁
 
 pub klumdray-step-stated : Stated klumdray-step-kinds.ps klumdray-step-kinds.r klumdray-step-reads.Pre klumdray-step-reads.Post (λ κs a. klumdray-step-reads.ensures κs a tt)
 klumdray-step-stated = record { determines = λ κs args r₁ r₂ w₁ w₂ x y. let e = stepped-one x y in (e .0, λ i. (tt, (tt, (tt, (tt, (tt, (e .1 .0 i, (tt, (e .1 .1 i, tt))))))))); free = λ κs args. tt; whole = λ κs args r e w. refl }
+
+pub klumdray-trace-stated : Stated klumdray-trace-kinds.ps klumdray-trace-kinds.r klumdray-trace-reads.Pre klumdray-trace-reads.Post (λ κs a. klumdray-trace-reads.ensures κs a tt)
+klumdray-trace-stated = record { determines = λ κs args r₁ r₂ w₁ w₂ x y. let e = traced-through-one x y in (e .0, λ i. (tt, (tt, (tt, (tt, (tt, (tt, (tt, (e .1 i, tt))))))))); free = λ κs args. tt; whole = λ κs args r e w. refl }
+
+pub klumdray-why-stated : Stated klumdray-why-kinds.ps klumdray-why-kinds.r klumdray-why-reads.Pre klumdray-why-reads.Post (λ κs a. klumdray-why-reads.ensures κs a tt)
+klumdray-why-stated = record { determines = λ κs args r₁ r₂ w₁ w₂ x y. (x ∙ sym y, refl); free = λ κs args. tt; whole = λ κs args r e w. refl }

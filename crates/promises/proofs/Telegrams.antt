@@ -11,8 +11,14 @@ use Rattle.coupler.specs.Settings.{classOf, isCode, isRow, areCodes, asksTable,
 use Rattle.coupler.specs.Passing.{isOwn, isListed, isBelow, isRuled, mayPass}
 use Rattle.coupler.specs.Memory.{isRepetition}
 use Rattle.coupler.specs.Step.{heard, acknowledgementBy, formOf}
+use Rattle.site.specs.Records.{recordsOf, isMarked, codesOf, couplerOf}
+use Rattle.site.specs.Stores.{isStored, tableAt, tableOf, isStore, areStores}
+use Rattle.site.specs.WellFormed.{hasTable, siteTests}
+use Rattle.site.specs.Letting.{passes, lets}
+use Rattle.tracer.specs.Lines.{mainSide, depth, mainSides, path, distance}
+use Rattle.tracer.specs.Listing.{lasts, isListed as isOnList, onArrival, entry, listed, linesListed, isForwardedTo, forwardings}
 use Rattle.promises.specs.Telegrams.{Every, cases}
 
 pub every : Every cases
-unfolding checkOctet isControl controlOf ctrleOf fieldsMeaning head sealed tp1Octets isExtended headSize isOtherFormat isEscape frameSize isChecked meaningIn readFrom body isOtherBody isEscapeBody isLongStandard bodySize messageIn isOtherHeader isOtherService isOtherLength readRouting classOf isCode isRow areCodes asksTable tableFits isOwn isListed isBelow isRuled mayPass isRepetition heard acknowledgementBy formOf
-every = (refl, (refl, (refl, (refl, (refl, (refl, ((refl, refl), ((refl, refl), ((refl, refl), ((refl, refl), ((refl, refl), ((refl, refl), tt))))))))))))
+unfolding checkOctet isControl controlOf ctrleOf fieldsMeaning head sealed tp1Octets isExtended headSize isOtherFormat isEscape frameSize isChecked meaningIn readFrom body isOtherBody isEscapeBody isLongStandard bodySize messageIn isOtherHeader isOtherService isOtherLength readRouting classOf isCode isRow areCodes asksTable tableFits isOwn isListed isBelow isRuled mayPass isRepetition heard acknowledgementBy formOf recordsOf isMarked codesOf couplerOf isStored tableAt tableOf isStore areStores hasTable siteTests passes lets mainSide depth mainSides path distance lasts isOnList onArrival entry listed linesListed isForwardedTo forwardings
+every = (refl, (refl, (refl, (refl, (refl, (refl, ((refl, refl), ((refl, refl), ((refl, refl), ((refl, refl), ((refl, refl), ((refl, refl), ((refl, refl), ((refl, refl), ((refl, refl), ((refl, refl), ((refl, refl), tt)))))))))))))))))

@@ -1,17 +1,22 @@
 -- Document 01, "Telegrams to check against": the cases marked P, as one list.
-use Prim.Native.Nat.{ℕ}
-use mathlib.Core.Path.{_≡_}
-use mathlib.Core.List.{List, [], _∷_}
+use Prim.Native.Nat.{ℕ, _/_}
 use mathlib.Core.Bool.{true, false}
-use Rattle.frame.specs.declared.Meaning.{Meaning}
-use Rattle.frame.specs.Refusals.{number}
-use Rattle.coupler.specs.declared.Acknowledgement.{Acknowledgement}
-use Rattle.coupler.specs.declared.Acknowledgement.the-variants.{Silence, Acknowledged}
+use mathlib.Core.List.{List, [], _∷_, _++_}
+use mathlib.Core.Path.{_≡_}
+use lib.ListN.{length}
 use Rattle.coupler.specs.Passing.{listedOctet, listedBit}
 use Rattle.coupler.specs.Step.{Setting, settingOf, Heard, heard, outcomeOf, sent}
-use Rattle.tp1.specs.declared.Tp1Answer.{Tp1Answer}
+use Rattle.coupler.specs.declared.Acknowledgement.the-variants.{Silence, Acknowledged}
+use Rattle.coupler.specs.declared.Acknowledgement.{Acknowledgement}
+use Rattle.frame.specs.Order.{Verdict, firstOf}
+use Rattle.frame.specs.Refusals.{number}
+use Rattle.frame.specs.declared.Meaning.{Meaning}
+use Rattle.site.specs.Stores.{stores}
+use Rattle.tp1.specs.Reading.{payloadIn, readTp1}
 use Rattle.tp1.specs.declared.Tp1Answer.the-variants.{Frame, Refused}
-use Rattle.tp1.specs.Reading.{readTp1, payloadIn}
+use Rattle.tp1.specs.declared.Tp1Answer.{Tp1Answer}
+use Rattle.tracer.specs.Listing.{Query, queryOf, forwardings}
+use Rattle.tracer.specs.Tracing.{traceTests, tracedBy, listBy}
 
 -- a reader's answer in the paper's words: a meaning and a payload, or the refusal's number
 pub data Said : Type 0 where
@@ -29,6 +34,7 @@ pub data Does : Type 0 where
 infix 20 tp1_is_
 infix 20 _hears_and_
 infix 20 bit_is_of_
+infix 20 _on_lists_by_
 pub data Case : Type 0 where
   -- these octets, read as a TP1 frame
   tp1_is_ : List ℕ → Said → Case
@@ -36,6 +42,8 @@ pub data Case : Type 0 where
   _hears_and_ : Setting → List ℕ → Does → Case
   -- this group's bit, and the octet of the filter table
   bit_is_of_ : ℕ → ℕ → ℕ → Case
+  -- this query on this site: the list, and the forwardings made
+  _on_lists_by_ : Query → List ℕ → List ℕ → ℕ → Case
 
 abbrev pub does : Setting → Heard → Does
 does k h = sends (outcomeOf k [] h .acknowledgement) (sent k [] h)
@@ -44,10 +52,16 @@ does k h = sends (outcomeOf k [] h .acknowledgement) (sent k [] h)
 abbrev pub Handles : Setting → Heard → Does → Type 0
 Handles k h d = (outcomeOf k [] h .number ≡ 0) × (does k h ≡ d)
 
+-- the verdict on a query with empty stores and a room of 768, and what is listed
+abbrev pub asked : Query → List ℕ → Verdict
+asked q site = firstOf (traceTests (stores [] []) site q 768)
+
 abbrev pub Holds : Case → Type 0
 Holds (tp1 s is a) = said (readTp1 s) s ≡ a
 Holds (k hears s and d) = Handles k (heard k s 272) d
 Holds (bit g is b of o) = (listedBit g ≡ b) × (listedOctet g ≡ o)
+Holds (q on site lists l by n) =
+    (tracedBy (stores [] []) site q (asked q site) ≡ record { number = 0; lines = length l / 3; forwardings = n }) × (listBy (stores [] []) site q (asked q site) ≡ l)
 
 abbrev pub Every : List Case → Type 0
 Every [] = Unit {0}
@@ -125,5 +139,32 @@ P11a = bit 0x6FFF is 7 of 3583
 abbrev pub P11b : Case
 P11b = bit 0x7000 is 0 of 3584
 
+-- "couplers 20h, 40h, 45h, 47h": all codes open but for the individual's, no table
+abbrev pub couplerAt : ℕ → ℕ → List ℕ
+couplerAt line individual = 0x43 ∷ 0x50 ∷ line ∷ individual ∷ 2 ∷ 2 ∷ 2 ∷ individual ∷ 2 ∷ 2 ∷ 2 ∷ 0xFF ∷ []
+
+abbrev pub fourCouplers : ℕ → List ℕ
+fourCouplers individual = couplerAt 0x20 individual ++ couplerAt 0x40 individual ++ couplerAt 0x45 individual ++ couplerAt 0x47 individual
+
+-- "all open; group 1234h from 47h, count 2: 00 00 02 40 01 01 45 00 02 47 02 00, 3 forwardings"
+abbrev pub P12a : Case
+P12a = queryOf 0x47 1 0x1234 2 on fourCouplers 2 lists 0x00 ∷ 0x00 ∷ 0x02 ∷ 0x40 ∷ 0x01 ∷ 0x01 ∷ 0x45 ∷ 0x00 ∷ 0x02 ∷ 0x47 ∷ 0x02 ∷ 0x00 ∷ [] by 3
+
+-- "Count 0: 47 00 00."
+abbrev pub P12b : Case
+P12b = queryOf 0x47 1 0x1234 0 on fourCouplers 2 lists 0x47 ∷ 0x00 ∷ 0x00 ∷ [] by 0
+
+-- "Count 7: 00 07 02 20 07 03 40 07 01 45 07 02 47 07 00."
+abbrev pub P12c : Case
+P12c = queryOf 0x47 1 0x1234 7 on fourCouplers 2 lists 0x00 ∷ 0x07 ∷ 0x02 ∷ 0x20 ∷ 0x07 ∷ 0x03 ∷ 0x40 ∷ 0x07 ∷ 0x01 ∷ 0x45 ∷ 0x07 ∷ 0x02 ∷ 0x47 ∷ 0x07 ∷ 0x00 ∷ [] by 4
+
+-- "same couplers, individual code 1; to 4700h from 20h, count 6: 00 05 01 20 06 00 40 04 02"
+abbrev pub P13a : Case
+P13a = queryOf 0x20 0 0x4700 6 on fourCouplers 1 lists 0x00 ∷ 0x05 ∷ 0x01 ∷ 0x20 ∷ 0x06 ∷ 0x00 ∷ 0x40 ∷ 0x04 ∷ 0x02 ∷ [] by 2
+
+-- "To 4901h from 47h: 40 05 01 47 06 00."
+abbrev pub P13b : Case
+P13b = queryOf 0x47 0 0x4901 6 on fourCouplers 1 lists 0x40 ∷ 0x05 ∷ 0x01 ∷ 0x47 ∷ 0x06 ∷ 0x00 ∷ [] by 1
+
 abbrev pub cases : List Case
-cases = P1 ∷ P2 ∷ P3 ∷ P4 ∷ P5 ∷ P6 ∷ P7 ∷ P8 ∷ P9 ∷ P10 ∷ P11a ∷ P11b ∷ []
+cases = P1 ∷ P2 ∷ P3 ∷ P4 ∷ P5 ∷ P6 ∷ P7 ∷ P8 ∷ P9 ∷ P10 ∷ P11a ∷ P11b ∷ P12a ∷ P12b ∷ P12c ∷ P13a ∷ P13b ∷ []

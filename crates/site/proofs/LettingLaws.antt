@@ -6,7 +6,7 @@ use mathlib.Core.Path.{_≡_, refl, sym, ap, _∙_}
 use native.Mathlib.Omega.{arith}
 use lib.Dec.{eqb}
 use lib.ListN.{length, getD, drop, set, length-set, replicate, getD-replicate}
-use lib.Seq.{getD-set-same, getD-set-other}
+use lib.Seq.{getD-set-same, getD-set-other, ext-getD}
 use borrow.Author.Tests.{lt-leb, eq-eqb, ne-eqb}
 use Rattle.coupler.proofs.PassingLaws.{passes-iff}
 use Rattle.coupler.specs.Passing.{mayPass, passageOf, doesPass}
@@ -115,3 +115,8 @@ passage-lets st group destination records direction line count = pick (couplerOf
         let table = tableOf (tableNumber r) st in
         by-fitted (isFitted r) (passageOf (lineOf r) (codesOf r) table direction group destination count) (mayPass (lineOf r) (codesOf r) table direction group destination) (not (eqb count 0))
         (passes-iff (lineOf r) (codesOf r) table direction group destination count)
+
+-- the marks are determined
+pub marks-one : {f : ℕ → Bool} {a b : List Bool} → Marks f a → Marks f b → a ≡ b
+marks-one {a = a} {b = b} x y =
+    ext-getD false a b (x .size ∙ sym (y .size)) (λ i h. let k : i < 256 = omega (arith, x .size) in x .each i k ∙ sym (y .each i k))

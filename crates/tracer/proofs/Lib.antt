@@ -5,3 +5,7 @@ pub mod WalkingLaws
 pub mod Explained
 pub mod ListLaws
 pub mod ListedBy
+pub mod Fitted
+pub mod Handing
+pub mod Journey
+pub mod Refusals

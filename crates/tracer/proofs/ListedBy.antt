@@ -60,8 +60,8 @@ module _ (f g : Crossing → Bool) (downs : (n : ℕ) → n < 256 → f (down n)
       by-mains (λ n. n < 256 → allPass f (upOver (before (mainSides n) others)) ≡ allPass g (upOver (before (mainSides n) others)))
       (λ l. rw (before-on 0 others z) refl)
       (λ n h ih l. by-cases (isOn n others)
-          (λ e. rw (before-on n others e) refl)
-          (λ e. rw (before-off n others h e, ups n l, ih (omega (arith, main-below n h))) refl))
+      (λ e. rw (before-on n others e) refl)
+      (λ e. rw (before-off n others h e, ups n l, ih (omega (arith, main-below n h))) refl))
 
   down-same : (others : List ℕ) → isOn 0 others ≡ true → (n : ℕ) → n < 256
       → allPass f (downOver (before (mainSides n) others)) ≡ allPass g (downOver (before (mainSides n) others))
@@ -69,8 +69,8 @@ module _ (f g : Crossing → Bool) (downs : (n : ℕ) → n < 256 → f (down n)
       by-mains (λ n. n < 256 → allPass f (downOver (before (mainSides n) others)) ≡ allPass g (downOver (before (mainSides n) others)))
       (λ l. rw (before-on 0 others z) refl)
       (λ n h ih l. by-cases (isOn n others)
-          (λ e. rw (before-on n others e) refl)
-          (λ e. rw (before-off n others h e, all-append f, all-append g, downs n l, ih (omega (arith, main-below n h))) refl))
+      (λ e. rw (before-on n others e) refl)
+      (λ e. rw (before-off n others h e, all-append f, all-append g, downs n l, ih (omega (arith, main-below n h))) refl))
 
   module _ (s c : ℕ) (hs : s < 256) where
     listed-same : (t : ℕ) → t < 256 → isListed f s c t ≡ isListed g s c t
@@ -152,3 +152,7 @@ module _ (st : Stores) (site : List ℕ) (kind count : ℕ) (room : List ℕ) {j
     trace-listed e l =
         let v = judged-fine (firstOf tests) (sym e ∙ j) in
         record { answered = rw v (l .answered); left = rw v (l .left) }
+
+-- two outcomes that the contract allows coincide
+pub traced-one : {st : Stores} {site : List ℕ} {q : Query} {room : List ℕ} {r₁ r₂ : Traced} {a₁ a₂ : List ℕ} → DidTrace st site q room r₁ a₁ → DidTrace st site q room r₂ a₂ → (r₁ ≡ r₂) × (a₁ ≡ a₂)
+traced-one x y = (x .answered ∙ sym (y .answered), x .left ∙ sym (y .left))

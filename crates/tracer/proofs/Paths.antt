@@ -89,7 +89,7 @@ by-mains P z s n = go (depth n) n refl
 or-true : (a b : Bool) → a ≡ true → a || b ≡ true
 or-true a b e = rw e
 
-or-right : (a b : Bool) → b ≡ true → a || b ≡ true
+pub or-right : (a b : Bool) → b ≡ true → a || b ≡ true
 or-right true b e = refl
 or-right false b e = e
 

@@ -3,3 +3,4 @@ pub mod Listing
 pub mod Tracing
 pub mod Reaching
 pub mod Why
+pub mod Journey
