@@ -1,7 +1,6 @@
 -- The tracer's answer and list, as the text that says them; and that the room has every text.
-use Prim.Native.Nat.{ℕ, zero, suc, _+_, _-_, _*_, _^_, _≤_, _<_}
-use mathlib.Core.Bool.{Bool, true, false, cond}
-use mathlib.Core.List.{List, [], _∷_, _++_}
+use Prim.Native.Nat.{ℕ, _+_, _-_, _*_, _^_, _≤_, _<_}
+use mathlib.Core.List.{List, _++_}
 use mathlib.Core.Path.{_≡_, refl, sym, ap, _∙_, subst}
 use native.Mathlib.Omega.{arith}
 use lib.ListN.{length, take, drop, length-append, length-drop}
@@ -22,9 +21,8 @@ use Rattle.report.proofs.Size.{length-told-line, length-list}
 use Rattle.report.specs.Ascii.{ascii}
 use Rattle.report.specs.Report.{queryIn, siteIn, noStores, queryTests, answerText, reportOf, reported, Reported}
 use Rattle.report.specs.Text.{toldLine, listText, Fits, Puts}
-use Rattle.site.specs.Stores.{Stores}
-use Rattle.tracer.specs.Lines.{Crossing, distance}
-use Rattle.tracer.specs.Listing.{isListed, Query, queryOf, letsPass, onArrival, entry, eachBelow, countBelow, listed, linesListed, forwardings}
+use Rattle.tracer.proofs.ListLaws.{trace-three-each}
+use Rattle.tracer.specs.Listing.{Query, queryOf, listed, forwardings}
 use Rattle.tracer.specs.Tracing.{tracedBy, listBy, DidTrace}
 use Rattle.tracer.specs.declared.Traced.{Traced}
 
@@ -48,23 +46,6 @@ number-some WrongSetting = omega arith
 number-some WrongRecord = omega arith
 number-some LineTwice = omega arith
 number-some NoTable = omega arith
-
--- three octets for each listed line
-entry-size : (f : Crossing → Bool) (start count line : ℕ) → length (entry f start count line) ≡ cond (isListed f start count line) 1 0 * 3
-unfolding entry
-entry-size f start count line = go (isListed f start count line)
-  where
-    go : (b : Bool) → length (cond b (line ∷ onArrival count (distance start line) ∷ distance start line ∷ []) []) ≡ cond b 1 0 * 3
-    go true = refl
-    go false = refl
-
-size-below : (f : Crossing → Bool) (start count n : ℕ) → length (eachBelow (entry f start count) n) ≡ countBelow (isListed f start count) n * 3
-size-below f start count zero = refl
-size-below f start count (suc n) = rw (length-append, size-below f start count n, entry-size f start count n) (omega arith)
-
-size-listed : (st : Stores) (site : List ℕ) (q : Query) → length (listed st site q) ≡ linesListed st site q * 3
-unfolding listed linesListed
-size-listed st site q = size-below (letsPass st site q) (q .start) (q .count) 256
 
 -- the room has the longest text
 
@@ -93,7 +74,7 @@ module _ (s : List ℕ) (t : Traced) where
   unfolding answerText
   listed-text room list pass e h l k =
       let L = listed noStores (siteIn s) (queryIn s) in
-      let n : length L ≡ t .lines * 3 = size-listed noStores (siteIn s) (queryIn s) ∙ ap (λ (x : Traced). x .lines * 3) (sym e) in
+      let n : length L ≡ t .lines * 3 = trace-three-each noStores (siteIn s) (queryIn s) ∙ ap (λ (x : Traced). x .lines * 3) (sym e) in
       let w : length list ≡ length L + (length room - length L) = ap length l ∙ rw (length-append, length-drop) in
       record {
         within = omega arith;
