@@ -22,7 +22,7 @@ use Rattle.report.specs.Ascii.{ascii}
 use Rattle.report.specs.Report.{queryIn, siteIn, noStores, queryTests, answerText, reportOf, reported, Reported}
 use Rattle.report.specs.Text.{toldLine, listText, Fits, Puts}
 use Rattle.tracer.proofs.ListLaws.{trace-three-each}
-use Rattle.tracer.specs.Listing.{Query, queryOf, listed, forwardings}
+use Rattle.tracer.specs.Listing.{Query, queryOf, listed}
 use Rattle.tracer.specs.Tracing.{tracedBy, listBy, DidTrace}
 use Rattle.tracer.specs.declared.Traced.{Traced}
 
