@@ -1,12 +1,14 @@
 -- The tracer's answer and list, as the text that says them; and that the room has every text.
 use Prim.Native.Nat.{ℕ, _+_, _-_, _*_, _^_, _≤_, _<_}
-use mathlib.Core.List.{List, _++_}
+use mathlib.Core.Bool.{Bool, true, false}
+use mathlib.Core.List.{List, [], _∷_, _++_}
+use mathlib.Core.Logic.{_↔_}
 use mathlib.Core.Path.{_≡_, refl, sym, ap, _∙_, subst}
 use native.Mathlib.Omega.{arith}
 use lib.ListN.{length, take, drop, length-append, length-drop}
 use lib.Seq.{take-at}
-use borrow.Author.Tests.{lt-ltb, le-ltb}
-use Rattle.frame.specs.Order.{Verdict, firstOf, pass, refuse}
+use borrow.Author.Tests.{ltb-true, lt-ltb, le-ltb}
+use Rattle.frame.specs.Order.{Verdict, firstOf, answerBy, _gives_, pass, refuse}
 use Rattle.frame.specs.Refusals.{number}
 use Rattle.frame.specs.declared.Refusal.the-variants.{TooFew, NotData, OtherFormat, Escape, LeftOver, WrongCheck, OtherCode, InformationEscape, LongStandard, OtherHeader, OtherService, OtherLength, SmallRoom, OutOfRange, WrongSetting, WrongRecord, LineTwice, NoTable}
 use Rattle.frame.specs.declared.Refusal.{Refusal}
@@ -136,3 +138,12 @@ pub reported-one : {s room : List ℕ} {r₁ r₂ : Written} {a₁ a₂ : List �
 reported-one {s} {room} {r₁} {r₂} x y =
     let e : r₁ ≡ r₂ = x .answered ∙ sym (y .answered) in
     (e, x .left ∙ rw e (sym (y .left)))
+
+-- 13 exactly if the room is too small
+small : (b : Bool) (n : ℕ) → answerBy Refused (Put n) (firstOf (b gives SmallRoom ∷ [])) ≡ Refused SmallRoom → b ≡ true
+small true n e = refl
+small false n e = let z : _≡_ {A = ℕ} 0 1 = cc in absurd (omega arith)
+
+pub refused-13 : (s room : List ℕ) → reported s room ≡ Refused SmallRoom ↔ (length room < 8192)
+unfolding reported
+refused-13 s room = ((λ e. ltb-true (length room) 8192 (small _ _ e)), λ h. rw (lt-ltb (length room) 8192 h))
