@@ -84,17 +84,16 @@ module _ (s : List ℕ) (t : Traced) where
       }
   listed-text room list (refuse r) e h l k = absurd (omega (arith, number-some r, ap (λ (x : Traced). x .number) e))
 
--- the same of the call: what was read from the octets, and an array of 768 lent
+-- the same of the call: the query and the site as they were read, and an array of 768 octets lent
 
-pub did-read : (s room list : List ℕ) (t : Traced) {start kind destination count : ℕ}
-    → start ≡ octetAt s 0 → kind ≡ octetAt s 1 → destination ≡ wordAt s 2 → count ≡ octetAt s 4
-    → DidTrace noStores (take (length s - 5) (drop 5 s)) (queryOf start kind destination count) room t list
-    → DidTrace noStores (siteIn s) (queryIn s) room t list
-did-read s room list t {start} {kind} {destination} {count} a b c d x =
-    subst (λ (q : Query). DidTrace noStores (siteIn s) q room t list) (λ i. queryOf (a i) (b i) (c i) (d i))
-    (subst (λ (site : List ℕ). DidTrace noStores site (queryOf start kind destination count) room t list) (rest-is 5 s) x)
+module _ (s room list : List ℕ) (t : Traced) (k : length room ≡ 768) {start kind destination count : ℕ}
+    (a : start ≡ octetAt s 0) (b : kind ≡ octetAt s 1) (c : destination ≡ wordAt s 2) (d : count ≡ octetAt s 4)
+    (x : DidTrace noStores (take (length s - 5) (drop 5 s)) (queryOf start kind destination count) room t list) where
+  did : DidTrace noStores (siteIn s) (queryIn s) room t list
+  did =
+      subst (λ (q : Query). DidTrace noStores (siteIn s) q room t list) (λ i. queryOf (a i) (b i) (c i) (d i))
+      (subst (λ (site : List ℕ). DidTrace noStores site (queryOf start kind destination count) room t list) (rest-is 5 s) x)
 
-module _ (s room list : List ℕ) (t : Traced) (k : length room ≡ 768) (did : DidTrace noStores (siteIn s) (queryIn s) room t list) where
   pub traced-refused : 0 < t .number → toldLine (ascii "refused ") (t .number) ≡ answerText s (firstOf (queryTests s))
   unfolding queryTests
   traced-refused h = refused-text s t _ (rw k at (did .answered)) h
