@@ -73,4 +73,3 @@ numbered-back NoTable = refl
 -- the paper's numbers tell the refusals apart
 pub number-apart : (q r : Refusal) → number q ≡ number r → q ≡ r
 number-apart q r e = sym (numbered-back q) ∙ ap numbered e ∙ numbered-back r
-

@@ -80,9 +80,9 @@ module _ (k : Setting) (m m′ : Memory) (s room room′ : List ℕ) (o : Outcom
   pub forwards-the-frame : (x : Meaning) (p : List ℕ) → heard k s (length room) ≡ frame x p → Lets k before x → take (o .forwarded) room′ ≡ forwardedOctets k x p
   forwards-the-frame x p e l =
       let n : o .forwarded ≡ length (forwardedOctets k x p) =
-          ap (λ (u : Outcome). u .forwarded) (d .handed .outcome ∙ ap (outcomeOf k before) e) ∙ ap length (sent-is k before x p l) in
+      ap (λ (u : Outcome). u .forwarded) (d .handed .outcome ∙ ap (outcomeOf k before) e) ∙ ap length (sent-is k before x p l) in
       let r : room′ ≡ over (forwardedOctets k x p) room =
-          d .handed .left ∙ ap (λ (h : Heard). over (sent k before h) room) e ∙ ap (λ (l : List ℕ). over l room) (sent-is k before x p l) in
+      d .handed .left ∙ ap (λ (h : Heard). over (sent k before h) room) e ∙ ap (λ (l : List ℕ). over l room) (sent-is k before x p l) in
       rw (n, r) (take-at (forwardedOctets k x p) (drop (length (forwardedOctets k x p)) room) (length (forwardedOctets k x p)) refl)
 
   -- "A TP1 frame gets CCh exactly if it is for the coupler itself or, repetition or not, its address, codes and count allow forwarding"
