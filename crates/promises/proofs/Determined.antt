@@ -5,6 +5,7 @@ use Rattle.frame.proofs.Writing.{wrote-one}
 use Rattle.coupler.proofs.StepLaws.{handed-one, did-one}
 use Rattle.site.proofs.LettingLaws.{marks-one}
 use Rattle.tracer.proofs.ListedBy.{traced-one}
+use Rattle.report.proofs.ReportLaws.{reported-one}
 use Rattle.klumdray.proofs.Surface.{wrote-number-one, traced-through-one}
 use Rattle.klumdray.proofs.BlockLaws.{stepped-one}
 use Rattle.promises.proofs.Stated.{Stated, StatedBy, SamePart}
@@ -96,6 +97,10 @@ use Rattle.klumdray.proofs.klumdray_routing_write.Kinds as klumdray-routing-wri
 use Rattle.klumdray.proofs.klumdray_routing_write.Reads as klumdray-routing-write-reads
 use Rattle.klumdray.proofs.klumdray_step.Kinds as klumdray-step-kinds
 use Rattle.klumdray.proofs.klumdray_step.Reads as klumdray-step-reads
+use Rattle.coupler.proofs.code_passes.Kinds as coupler-code-passes-kinds
+use Rattle.coupler.proofs.code_passes.Reads as coupler-code-passes-reads
+use Rattle.coupler.proofs.class_of.Kinds as coupler-class-of-kinds
+use Rattle.coupler.proofs.class_of.Reads as coupler-class-of-reads
 use Rattle.coupler.proofs.why_not.Kinds as coupler-why-not-kinds
 use Rattle.coupler.proofs.why_not.Reads as coupler-why-not-reads
 use Rattle.site.proofs.stores.table_of.Kinds as site-table-of-kinds
@@ -112,6 +117,8 @@ use Rattle.tracer.proofs.trace.Kinds as tracer-trace-kinds
 use Rattle.tracer.proofs.trace.Reads as tracer-trace-reads
 use Rattle.tracer.proofs.why.Kinds as tracer-why-kinds
 use Rattle.tracer.proofs.why.Reads as tracer-why-reads
+use Rattle.report.proofs.report.Kinds as report-report-kinds
+use Rattle.report.proofs.report.Reads as report-report-reads
 use Rattle.klumdray.proofs.klumdray_trace.Kinds as klumdray-trace-kinds
 use Rattle.klumdray.proofs.klumdray_trace.Reads as klumdray-trace-reads
 use Rattle.klumdray.proofs.klumdray_why.Kinds as klumdray-why-kinds
@@ -225,6 +232,12 @@ coupler-table-fits-stated = record { determines = λ κs args r₁ r₂ w₁ w�
 pub coupler-may-pass-stated : Stated coupler-may-pass-kinds.ps coupler-may-pass-kinds.r coupler-may-pass-reads.Pre coupler-may-pass-reads.Post (λ κs a. coupler-may-pass-reads.ensures κs a tt)
 coupler-may-pass-stated = record { determines = λ κs args r₁ r₂ w₁ w₂ x y. (x ∙ sym y, refl); free = λ κs args. tt; whole = λ κs args r e w. refl }
 
+pub coupler-code-passes-stated : Stated coupler-code-passes-kinds.ps coupler-code-passes-kinds.r coupler-code-passes-reads.Pre coupler-code-passes-reads.Post (λ κs a. coupler-code-passes-reads.ensures κs a tt)
+coupler-code-passes-stated = record { determines = λ κs args r₁ r₂ w₁ w₂ x y. (x ∙ sym y, refl); free = λ κs args. tt; whole = λ κs args r e w. refl }
+
+pub coupler-class-of-stated : Stated coupler-class-of-kinds.ps coupler-class-of-kinds.r coupler-class-of-reads.Pre coupler-class-of-reads.Post (λ κs a. coupler-class-of-reads.ensures κs a tt)
+coupler-class-of-stated = record { determines = λ κs args r₁ r₂ w₁ w₂ x y. (x .0 ∙ sym (y .0), refl); free = λ κs args. tt; whole = λ κs args r e w. refl }
+
 pub coupler-why-not-stated : Stated coupler-why-not-kinds.ps coupler-why-not-kinds.r coupler-why-not-reads.Pre coupler-why-not-reads.Post (λ κs a. coupler-why-not-reads.ensures κs a tt)
 coupler-why-not-stated = record { determines = λ κs args r₁ r₂ w₁ w₂ x y. (x ∙ sym y, refl); free = λ κs args. tt; whole = λ κs args r e w. refl }
 
@@ -264,6 +277,11 @@ tracer-trace-stated = record { determines = λ κs args r₁ r₂ w₁ w₂ x y.
 
 pub tracer-why-stated : Stated tracer-why-kinds.ps tracer-why-kinds.r tracer-why-reads.Pre tracer-why-reads.Post (λ κs a. tracer-why-reads.ensures κs a tt)
 tracer-why-stated = record { determines = λ κs args r₁ r₂ w₁ w₂ x y. (x ∙ sym y, refl); free = λ κs args. tt; whole = λ κs args r e w. refl }
+
+-- report
+
+pub report-report-stated : Stated report-report-kinds.ps report-report-kinds.r report-report-reads.Pre report-report-reads.Post (λ κs a. report-report-reads.ensures κs a tt)
+report-report-stated = record { determines = λ κs args r₁ r₂ w₁ w₂ x y. let e = reported-one x y in (e .0, λ i. (tt, (e .1 i, tt))); free = λ κs args. tt; whole = λ κs args r e w. refl }
 
 -- klumdray
 
