@@ -1,7 +1,7 @@
 -- Each refusal of the settings exactly in its listed case, then the reader's, then an accepted frame: corollaries of the law of tests in
 -- order. Neither reader gives 15, 18, 14 or 13, and the outcome's number tells the refusals apart.
 use Prim.Native.Nat.{ℕ}
-use mathlib.Core.Bool.{Bool, true, false, cond, not, _&&_, _||_}
+use mathlib.Core.Bool.{Bool, true, false, not, _&&_, _||_}
 use mathlib.Core.List.{List, [], _∷_, _++_}
 use mathlib.Core.Logic.{_↔_}
 use mathlib.Core.Path.{_≡_, refl, sym, ap, _∙_}
@@ -10,18 +10,18 @@ use lib.Dec.{ltb, eqb}
 use lib.ListN.{length, take, drop}
 use borrow.Author.Tests.{eqb-false}
 use Rattle.cemi.specs.declared.CemiAnswer.{CemiAnswer}
-use Rattle.coupler.proofs.StepLaws.{refused-number}
 use Rattle.coupler.specs.Settings.{areCodes, tableFits}
 use Rattle.coupler.specs.Step.{Setting, settingTests, fromIp, Heard, heardTp1, heardIp, readBy, after, heard, outcomeOf, frame, nothing}
-use Rattle.frame.proofs.Order.{passed-iff, refused-iff as order-iff, givesNot, once-iff, first-refused, answer-iff, refusal-once}
+use Rattle.frame.proofs.Numbers.{refused-number, number-apart}
 use Rattle.frame.specs.Order.{Test, Verdict, firstOf, answerBy, NoneOf, _gives_, pass, refuse}
 use Rattle.frame.specs.Refusals.{number}
 use Rattle.frame.specs.declared.Meaning.{Meaning}
-use Rattle.frame.specs.declared.Refusal.the-variants.{TooFew, NotData, OtherFormat, Escape, LeftOver, WrongCheck, OtherCode, InformationEscape, LongStandard, OtherHeader, OtherService, OtherLength, SmallRoom, OutOfRange, WrongSetting, WrongRecord, LineTwice, NoTable}
+use Rattle.frame.specs.declared.Refusal.the-variants.{SmallRoom, OutOfRange, WrongSetting, NoTable}
 use Rattle.frame.specs.declared.Refusal.{Refusal}
 use Rattle.routing.specs.Reading.{routingTests, readRouting, routedPayload}
-use Rattle.tp1.specs.Reading.{tp1Tests, readTp1, payloadIn}
+use Rattle.tp1.specs.Reading.{payloadIn, tp1Tests, readTp1}
 use Rattle.tp1.specs.declared.Tp1Answer.{Tp1Answer}
+use Rattle.frame.proofs.Order.{passed-iff, refused-iff as order-iff, givesNot, once-iff, first-refused, answer-iff, refusal-once}
 use Rattle.cemi.specs.declared.CemiAnswer.the-variants.{Frame as Message-is, Refused as Message-not}
 use Rattle.routing.proofs.Refusals.{refused-iff as routing-refused-iff}
 use Rattle.tp1.proofs.Refusals.{refused-iff as tp1-refused-iff}
@@ -96,51 +96,6 @@ module _ (k : Setting) (s : List ℕ) (room : ℕ) where
 
   pub refused-13 : heard k s room ≡ nothing SmallRoom ↔ (NoneOf (take 3 (settingTests k room)) × (ltb room 272 ≡ true))
   refused-13 = once-at (take 3 (settingTests k room)) [] _ SmallRoom refl refl refl refl refl
-
--- the refusal that has a number
-abbrev numbered : ℕ → Refusal
-numbered n =
-    cond (eqb n 1) TooFew
-    (cond (eqb n 2) NotData
-    (cond (eqb n 3) OtherFormat
-    (cond (eqb n 4) Escape
-    (cond (eqb n 5) LeftOver
-    (cond (eqb n 6) WrongCheck
-    (cond (eqb n 7) OtherCode
-    (cond (eqb n 8) InformationEscape
-    (cond (eqb n 9) LongStandard
-    (cond (eqb n 10) OtherHeader
-    (cond (eqb n 11) OtherService
-    (cond (eqb n 12) OtherLength
-    (cond (eqb n 13) SmallRoom
-    (cond (eqb n 14) OutOfRange
-    (cond (eqb n 15) WrongSetting
-    (cond (eqb n 16) WrongRecord
-    (cond (eqb n 17) LineTwice
-    NoTable))))))))))))))))
-
-numbered-back : (r : Refusal) → numbered (number r) ≡ r
-numbered-back TooFew = refl
-numbered-back NotData = refl
-numbered-back OtherFormat = refl
-numbered-back Escape = refl
-numbered-back LeftOver = refl
-numbered-back WrongCheck = refl
-numbered-back OtherCode = refl
-numbered-back InformationEscape = refl
-numbered-back LongStandard = refl
-numbered-back OtherHeader = refl
-numbered-back OtherService = refl
-numbered-back OtherLength = refl
-numbered-back SmallRoom = refl
-numbered-back OutOfRange = refl
-numbered-back WrongSetting = refl
-numbered-back WrongRecord = refl
-numbered-back LineTwice = refl
-numbered-back NoTable = refl
-
-number-apart : (q r : Refusal) → number q ≡ number r → q ≡ r
-number-apart q r e = sym (numbered-back q) ∙ ap numbered e ∙ numbered-back r
 
 -- the outcome's number is a refusal's exactly if that refusal was heard, and 0 exactly if none was
 pub number-iff : (k : Setting) (remembered : List ℕ) (h : Heard) (r : Refusal) → outcomeOf k remembered h .number ≡ number r ↔ (h ≡ nothing r)

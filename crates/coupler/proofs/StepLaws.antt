@@ -17,15 +17,14 @@ use Rattle.coupler.specs.Step.{Setting, settingTests, judgedBy, fromIp, 
 use Rattle.coupler.specs.declared.Memory.{Memory}
 use Rattle.coupler.specs.declared.Outcome.{Outcome}
 use Rattle.coupler.specs.declared.Remembered.{Remembered}
+use Rattle.frame.proofs.Numbers.{refused-number}
 use Rattle.frame.proofs.Order.{passed-iff}
 use Rattle.frame.proofs.Valid.{ranges-of, ranged, most-payload}
 use Rattle.frame.proofs.Writing.{put-iff, wrote-over}
 use Rattle.frame.specs.Order.{Verdict, firstOf, pass, refuse}
-use Rattle.frame.specs.Refusals.{number}
 use Rattle.frame.specs.Valid.{inRange, Valid}
 use Rattle.frame.specs.Writing.{Wrote}
 use Rattle.frame.specs.declared.Meaning.{Meaning}
-use Rattle.frame.specs.declared.Refusal.the-variants.{TooFew, NotData, OtherFormat, Escape, LeftOver, WrongCheck, OtherCode, InformationEscape, LongStandard, OtherHeader, OtherService, OtherLength, SmallRoom, OutOfRange, WrongSetting, WrongRecord, LineTwice, NoTable}
 use Rattle.frame.specs.declared.Refusal.{Refusal}
 use Rattle.frame.specs.declared.Written.the-variants.{Put}
 use Rattle.frame.specs.declared.Written.{Written}
@@ -115,27 +114,6 @@ judged-refused (refuse q) r e = let h : q ≡ r = cc in ap refuse h
 -- settings that are fine come with a room of 272
 pub fine-room : (k : Setting) (n : ℕ) → Fine ≡ judgedBy (firstOf (settingTests k n)) → 272 ≤ n
 fine-room k n e = ltb-false n 272 (passed-iff (settingTests k n) .0 (judged-fine (firstOf (settingTests k n)) e) .1 .1 .1 .0)
-
--- a refusal's number is not 0
-pub refused-number : (r : Refusal) → eqb (number r) 0 ≡ false
-refused-number TooFew = refl
-refused-number NotData = refl
-refused-number OtherFormat = refl
-refused-number Escape = refl
-refused-number LeftOver = refl
-refused-number WrongCheck = refl
-refused-number OtherCode = refl
-refused-number InformationEscape = refl
-refused-number LongStandard = refl
-refused-number OtherHeader = refl
-refused-number OtherService = refl
-refused-number OtherLength = refl
-refused-number SmallRoom = refl
-refused-number OutOfRange = refl
-refused-number WrongSetting = refl
-refused-number WrongRecord = refl
-refused-number LineTwice = refl
-refused-number NoTable = refl
 
 -- the memory that the code keeps by the outcome's number is the one that the step says
 pub memory-by-number : (k : Setting) (remembered : List ℕ) (m : Memory) (s : List ℕ) (h : Heard)

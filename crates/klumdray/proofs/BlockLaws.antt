@@ -9,11 +9,12 @@ use lib.Dec.{leb, eqb}
 use lib.ListN.{length, take, drop, take-append-drop, length-drop, List·getD-append}
 use lib.Seq.{length-take-le, take-all, take-append-le, drop-append-le, drop-append-add, getD-append-add, take-take, take-at, drop-at}
 use borrow.Author.Tests.{leb-true, eqb-true}
-use Rattle.coupler.proofs.StepLaws.{refused-number, heard-size}
+use Rattle.coupler.proofs.StepLaws.{heard-size}
 use Rattle.coupler.specs.Memory.{kept, recalled, remembering, sideOf, rememberedOn}
 use Rattle.coupler.specs.Step.{Setting, fromIp, Heard, heard, outcomeOf, HandedOn, memoryAfter, frame, nothing}
 use Rattle.coupler.specs.declared.Memory.{Memory}
 use Rattle.coupler.specs.declared.Outcome.{Outcome}
+use Rattle.frame.proofs.Numbers.{refused-number}
 use Rattle.frame.specs.declared.Meaning.{Meaning}
 use Rattle.klumdray.specs.Block.{rememberedIn, memoryIn, halfOf, blockOf, startOf, keptIn, rememberedAt, outcomeNumber, heardThrough, SteppedThrough}
 use Rattle.octets.proofs.Below.{and-true}

@@ -1,3 +1,4 @@
 pub mod RecordLaws
 pub mod Judging
 pub mod LettingLaws
+pub mod Refusals

@@ -72,8 +72,8 @@ module _ (st : Stores) (site : List ℕ) (q : Query) (m : q .count ≤ 7) where
       let p = passage x (onArrival (q .count) d) in
       let f = letsPass st site q x in
       let k : doesPass p ≡ f && lasts (q .count) (suc d) =
-          passage-lets st (eqb (q .kind) 1) (q .destination) (recordsOf site) (x .direction) (x .line) (onArrival (q .count) d)
-          ∙ ap (λ (b : Bool). f && b) (left-lasts (q .count) d e) in
+      passage-lets st (eqb (q .kind) 1) (q .destination) (recordsOf site) (x .direction) (x .line) (onArrival (q .count) d)
+      ∙ ap (λ (b : Bool). f && b) (left-lasts (q .count) d e) in
       by-cases (f && lasts (q .count) (suc d))
       (λ t.
       let l : lasts (q .count) (suc d) ≡ true = and-true f (lasts (q .count) (suc d)) t .1 in
@@ -132,7 +132,7 @@ module _ (st : Stores) (site : List ℕ) (q : Query) (m : q .count ≤ 7) where
       (λ t.
       let s = stopped-at (hopped k) xs stop (rw t at e) in
       let l : letsPass st site q x ≡ true =
-          and-true (letsPass st site q x) (not (eqb k 0)) (sym (passage-lets st (eqb (q .kind) 1) (q .destination) (recordsOf site) (x .direction) (x .line) k) ∙ t) .0 in
+      and-true (letsPass st site q x) (not (eqb k 0)) (sym (passage-lets st (eqb (q .kind) 1) (q .destination) (recordsOf site) (x .direction) (x .line) k) ∙ t) .0 in
       record {
         ahead = x ∷ s .ahead;
         here = s .here;
@@ -146,7 +146,7 @@ module _ (st : Stores) (site : List ℕ) (q : Query) (m : q .count ≤ 7) where
       })
       (λ n.
       let f : Stopped (record { coupler = x .line; direction = x .direction; reason = passage x k }) ≡ Stopped stop =
-          sym (stopped-stays st site (eqb (q .kind) 1) (q .destination) (record { coupler = x .line; direction = x .direction; reason = passage x k }) xs) ∙ (rw n at e) in
+      sym (stopped-stays st site (eqb (q .kind) 1) (q .destination) (record { coupler = x .line; direction = x .direction; reason = passage x k }) xs) ∙ (rw n at e) in
       let g : stop ≡ record { coupler = x .line; direction = x .direction; reason = passage x k } = cc in
       record {
         ahead = [];

@@ -74,9 +74,9 @@ unfolding hasTable tableFits
 table-fits st r h =
     by-cases (eqb (tableNumber r) 0xff)
     (λ e.
-        let a : not (asksTable (codesOf r)) ≡ true = rw e at h in
-        let n : length (tableOf (tableNumber r) st) ≡ 0 = rw (eqb-true (tableNumber r) 0xff e) (no-table st) in
-        rw (n, a) refl)
+    let a : not (asksTable (codesOf r)) ≡ true = rw e at h in
+    let n : length (tableOf (tableNumber r) st) ≡ 0 = rw (eqb-true (tableNumber r) 0xff e) (no-table st) in
+    rw (n, a) refl)
     (λ e. let a : eqb (length (tableOf (tableNumber r) st)) 8192 ≡ true = rw e at h in rw a refl)
 
 -- the step's settings pass

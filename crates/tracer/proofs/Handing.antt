@@ -134,9 +134,9 @@ hopped-more c d h =
     by-cases (eqb c 7)
     (λ e. rw e refl)
     (λ e.
-        let n : c ≡ 7 → ⊥ = eqb-false c 7 e in
-        let q : eqb (c - d) 7 ≡ false = ne-eqb (c - d) 7 (λ z. omega (arith, n)) in
-        rw (e, q) (omega arith))
+    let n : c ≡ 7 → ⊥ = eqb-false c 7 e in
+    let q : eqb (c - d) 7 ≡ false = ne-eqb (c - d) 7 (λ z. omega (arith, n)) in
+    rw (e, q) (omega arith))
 
 and-assoc : (a b c : Bool) → (a && b) && c ≡ a && (b && c)
 and-assoc true b c = refl

@@ -54,13 +54,13 @@ above-one s m n hm hn e =
     by-mains (λ s. isOn m (mainSides s) ≡ true → isOn n (mainSides s) ≡ true → m ≡ n)
     (λ a b. absurd (hm (omega (arith, on-below m 0 a))))
     (λ s h ih a b.
-        by-cases (eqb s m)
-        (λ x. by-cases (eqb s n)
-        (λ y. sym (eqb-true s m x) ∙ eqb-true s n y)
-        (λ y. absurd (omega (arith, on-below n (mainSide s) (on-next n s (eqb-false s n y) b .1), ap mainSide (eqb-true s m x), main-below n hn))))
-        (λ x. by-cases (eqb s n)
-        (λ y. absurd (omega (arith, on-below m (mainSide s) (on-next m s (eqb-false s m x) a .1), ap mainSide (eqb-true s n y), main-below m hm)))
-        (λ y. ih (on-next m s (eqb-false s m x) a .1) (on-next n s (eqb-false s n y) b .1))))
+    by-cases (eqb s m)
+    (λ x. by-cases (eqb s n)
+    (λ y. sym (eqb-true s m x) ∙ eqb-true s n y)
+    (λ y. absurd (omega (arith, on-below n (mainSide s) (on-next n s (eqb-false s n y) b .1), ap mainSide (eqb-true s m x), main-below n hn))))
+    (λ x. by-cases (eqb s n)
+    (λ y. absurd (omega (arith, on-below m (mainSide s) (on-next m s (eqb-false s m x) a .1), ap mainSide (eqb-true s n y), main-below m hm)))
+    (λ y. ih (on-next m s (eqb-false s m x) a .1) (on-next n s (eqb-false s n y) b .1))))
     s
 
 -- a line above s that is not s is the main side of another
@@ -69,10 +69,10 @@ above-of s t =
     by-mains (λ s. isOn t (mainSides s) ≡ true → (s ≡ t → ⊥) → (n : ℕ) × ((n ≡ 0 → ⊥) × ((isOn n (mainSides s) ≡ true) × (t ≡ mainSide n))))
     (λ a d. absurd (d (omega (arith, on-below t 0 a))))
     (λ s h ih a d.
-        let u : isOn t (mainSides (mainSide s)) ≡ true = on-next t s d a .1 in
-        by-cases (eqb (mainSide s) t)
-        (λ x. (s, (h, (on-self s, sym (eqb-true (mainSide s) t x)))))
-        (λ x. let y = ih u (eqb-false (mainSide s) t x) in (y .0, (y .1 .0, (rw (mains-cons s h) (or-right (eqb s (y .0)) _ (y .1 .1 .0)), y .1 .1 .1)))))
+    let u : isOn t (mainSides (mainSide s)) ≡ true = on-next t s d a .1 in
+    by-cases (eqb (mainSide s) t)
+    (λ x. (s, (h, (on-self s, sym (eqb-true (mainSide s) t x)))))
+    (λ x. let y = ih u (eqb-false (mainSide s) t x) in (y .0, (y .1 .0, (rw (mains-cons s h) (or-right (eqb s (y .0)) _ (y .1 .1 .0)), y .1 .1 .1)))))
     s
 
 -- handed on over another coupler than the last, the telegram goes on away from s
@@ -169,8 +169,8 @@ module _ (st : Stores) (site : List ℕ) (w : firstOf (siteTests st site) ≡ pa
   onward-is : (t u n side : ℕ) → path start t ≡ path start u ++ (crossing side n ∷ []) → tp1Octets (forwardedMeaning (onLine u)) p ≡ tp1Octets (onLine t) p
   onward-is t u n side e =
       ap (λ (x : Meaning). tp1Octets x p) (
-        forwarded-with m (onArrival (m .count) (distance start u)) new
-        ∙ ap (λ (k : ℕ). withCount k m) (hopped-more (m .count) (distance start u) counted ∙ ap (onArrival (m .count)) (sym (distance-more start t u (crossing side n) e)))
+      forwarded-with m (onArrival (m .count) (distance start u)) new
+      ∙ ap (λ (k : ℕ). withCount k m) (hopped-more (m .count) (distance start u) counted ∙ ap (onArrival (m .count)) (sym (distance-more start t u (crossing side n) e)))
       )
 
   step-lists : (t u n side : ℕ) (onward : List ℕ) → side < 2 → path start t ≡ path start u ++ (crossing side n ∷ []) → Lists u
@@ -244,9 +244,9 @@ module _ (st : Stores) (site : List ℕ) (w : firstOf (siteTests st site) ≡ pa
   comes-from d t ih e l =
       by-cases (isOn t (mainSides start))
       (λ q.
-          let a = above-of start t q (λ z. omega (arith, ap (distance start) (sym z), distance-same start)) in
-          let f : t ≡ mainSide (a .0) = a .1 .1 .1 in
-          subst Comes (sym f) (climbs d (a .0) ih (ap (distance start) (sym f) ∙ e) (subst Lists f l) (a .1 .0) (a .1 .1 .0)))
+      let a = above-of start t q (λ z. omega (arith, ap (distance start) (sym z), distance-same start)) in
+      let f : t ≡ mainSide (a .0) = a .1 .1 .1 in
+      subst Comes (sym f) (climbs d (a .0) ih (ap (distance start) (sym f) ∙ e) (subst Lists f l) (a .1 .0) (a .1 .1 .0)))
       (sinks d t ih e l)
 
   comes-by : (d t : ℕ) → distance start t ≡ d → Lists t → Comes t

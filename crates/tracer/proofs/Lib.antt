@@ -8,3 +8,4 @@ pub mod ListedBy
 pub mod Fitted
 pub mod Handing
 pub mod Journey
+pub mod Refusals

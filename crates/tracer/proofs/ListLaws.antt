@@ -44,9 +44,9 @@ rising-more n l b r i j h k =
     let m : j < length l + 1 = rw length-append at k in
     by-cases (eqb j (length l))
     (λ e. let q = eqb-true j (length l) e in
-        rw (q, getD-append-seam, List·getD-append l (n ∷ []) 0 i (omega (arith, q))) (b i (omega (arith, q))))
+    rw (q, getD-append-seam, List·getD-append l (n ∷ []) 0 i (omega (arith, q))) (b i (omega (arith, q))))
     (λ e. let q = eqb-false j (length l) e in
-        rw (List·getD-append l (n ∷ []) 0 i (omega (arith, q)), List·getD-append l (n ∷ []) 0 j (omega (arith, q))) (r i j h (omega (arith, q))))
+    rw (List·getD-append l (n ∷ []) 0 i (omega (arith, q)), List·getD-append l (n ∷ []) 0 j (omega (arith, q))) (r i j h (omega (arith, q))))
 
 below-more : (n : ℕ) (l : List ℕ) → ((i : ℕ) → i < length l → getD l i 0 < n) → (i : ℕ) → i < length (l ++ (n ∷ [])) → getD (l ++ (n ∷ [])) i 0 < suc n
 below-more n l b i h =
@@ -54,7 +54,7 @@ below-more n l b i h =
     by-cases (eqb i (length l))
     (λ e. rw (eqb-true i (length l) e, getD-append-seam) (omega arith))
     (λ e. let q = eqb-false i (length l) e in
-        rw (List·getD-append l (n ∷ []) 0 i (omega (arith, q))) (omega (arith, b i (omega (arith, q)))))
+    rw (List·getD-append l (n ∷ []) 0 i (omega (arith, q))) (omega (arith, b i (omega (arith, q)))))
 
 or-no : (a : Bool) → a || false ≡ a
 or-no true = refl
@@ -99,12 +99,12 @@ module _ (f : Crossing → Bool) (s c : ℕ) where
       by-cases (eqb n s)
       (λ e. rw (eqb-true n s e, start-listed, distance-same, le-ltb s s (omega arith), lt-ltb s (suc s) (omega arith)) refl)
       (λ e.
-          let q = eqb-false n s e in
-          let d : 0 < distance s n = by-cases (eqb (distance s n) 0) (λ z. absurd (q (sym (distance-zero s n (eqb-true (distance s n) 0 z))))) (λ z. omega (arith, eqb-false (distance s n) 0 z)) in
-          rw (lt-ltb 0 (distance s n) d, and-yes)
-          (by-cases (ltb s n)
-          (λ l. rw (l, lt-ltb s (suc n) (omega (arith, ltb-true s n l))) refl)
-          (λ l. rw (l, le-ltb s (suc n) (omega (arith, ltb-false s n l, q))) refl)))
+      let q = eqb-false n s e in
+      let d : 0 < distance s n = by-cases (eqb (distance s n) 0) (λ z. absurd (q (sym (distance-zero s n (eqb-true (distance s n) 0 z))))) (λ z. omega (arith, eqb-false (distance s n) 0 z)) in
+      rw (lt-ltb 0 (distance s n) d, and-yes)
+      (by-cases (ltb s n)
+      (λ l. rw (l, lt-ltb s (suc n) (omega (arith, ltb-true s n l))) refl)
+      (λ l. rw (l, le-ltb s (suc n) (omega (arith, ltb-false s n l, q))) refl)))
 
   forwarded-each : (n : ℕ) → countBelow (isListed f s c) n ≡ countBelow (isForwardedTo f s c) n + cond (ltb s n) 1 0
   forwarded-each zero = rw (le-ltb s 0 (omega arith)) refl
@@ -146,11 +146,11 @@ module _ (f : Crossing → Bool) (s c : ℕ) where
   on-one t n =
       by-cases (eqb n t)
       (λ e. rw (eqb-true n t e, le-ltb t t (omega arith), lt-ltb t (suc t) (omega arith))
-          (by-cases (isListed f s c t) (λ h. rw (h, eq-eqb t t refl) refl) (λ h. rw h refl)))
+      (by-cases (isListed f s c t) (λ h. rw (h, eq-eqb t t refl) refl) (λ h. rw h refl)))
       (λ e.
-          let q = eqb-false n t e in
-          let less : ltb t n ≡ ltb t (suc n) = by-cases (ltb t n) (λ l. rw (l, lt-ltb t (suc n) (omega (arith, ltb-true t n l))) refl) (λ l. rw (l, le-ltb t (suc n) (omega (arith, ltb-false t n l, q))) refl) in
-          rw less (by-cases (isListed f s c n) (λ h. rw (h, e) (or-no (isListed f s c t && ltb t (suc n)))) (λ h. rw h (or-no (isListed f s c t && ltb t (suc n))))))
+      let q = eqb-false n t e in
+      let less : ltb t n ≡ ltb t (suc n) = by-cases (ltb t n) (λ l. rw (l, lt-ltb t (suc n) (omega (arith, ltb-true t n l))) refl) (λ l. rw (l, le-ltb t (suc n) (omega (arith, ltb-false t n l, q))) refl) in
+      rw less (by-cases (isListed f s c n) (λ h. rw (h, e) (or-no (isListed f s c t && ltb t (suc n)))) (λ h. rw h (or-no (isListed f s c t && ltb t (suc n))))))
 
   on-lines : (t n : ℕ) → isOn t (linesBelow n) ≡ isListed f s c t && ltb t n
   on-lines t zero = rw (le-ltb t 0 (omega arith), and-false) refl

@@ -60,8 +60,8 @@ module _ (f g : Crossing → Bool) (downs : (n : ℕ) → n < 256 → f (down n)
       by-mains (λ n. n < 256 → allPass f (upOver (before (mainSides n) others)) ≡ allPass g (upOver (before (mainSides n) others)))
       (λ l. rw (before-on 0 others z) refl)
       (λ n h ih l. by-cases (isOn n others)
-          (λ e. rw (before-on n others e) refl)
-          (λ e. rw (before-off n others h e, ups n l, ih (omega (arith, main-below n h))) refl))
+      (λ e. rw (before-on n others e) refl)
+      (λ e. rw (before-off n others h e, ups n l, ih (omega (arith, main-below n h))) refl))
 
   down-same : (others : List ℕ) → isOn 0 others ≡ true → (n : ℕ) → n < 256
       → allPass f (downOver (before (mainSides n) others)) ≡ allPass g (downOver (before (mainSides n) others))
@@ -69,8 +69,8 @@ module _ (f g : Crossing → Bool) (downs : (n : ℕ) → n < 256 → f (down n)
       by-mains (λ n. n < 256 → allPass f (downOver (before (mainSides n) others)) ≡ allPass g (downOver (before (mainSides n) others)))
       (λ l. rw (before-on 0 others z) refl)
       (λ n h ih l. by-cases (isOn n others)
-          (λ e. rw (before-on n others e) refl)
-          (λ e. rw (before-off n others h e, all-append f, all-append g, downs n l, ih (omega (arith, main-below n h))) refl))
+      (λ e. rw (before-on n others e) refl)
+      (λ e. rw (before-off n others h e, all-append f, all-append g, downs n l, ih (omega (arith, main-below n h))) refl))
 
   module _ (s c : ℕ) (hs : s < 256) where
     listed-same : (t : ℕ) → t < 256 → isListed f s c t ≡ isListed g s c t

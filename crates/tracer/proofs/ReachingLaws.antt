@@ -55,8 +55,8 @@ along-from f c d (x ∷ p) h =
     rw (n, handed-on c d (f x))
     (by-cases (f x)
     (λ e. by-cases (lasts c (suc d))
-        (λ k. rw (e, k) (along-from f c (suc d) p k))
-        (λ k. rw (e, k, lasts-less c (suc d) (length p) k, and-false (allPass f p)) (along-zero f c p)))
+    (λ k. rw (e, k) (along-from f c (suc d) p k))
+    (λ k. rw (e, k, lasts-less c (suc d) (length p) k, and-false (allPass f p)) (along-zero f c p)))
     (λ e. rw e (along-zero f c p)))
 
 pub lasts-none : (c : ℕ) → lasts c 0 ≡ true
@@ -103,8 +103,8 @@ reach-by d u lines s c t h =
     by-cases (isOn t (mainSides s))
     (λ e. rw (e, path-climb s t e) refl)
     (λ e.
-        let z : t ≡ 0 → ⊥ = λ z. never (sym (on-zero s) ∙ rw z at e) in
-        rw (e, path-down s t e, along-append, h (mainSide t) (main-below t z)) refl)
+    let z : t ≡ 0 → ⊥ = λ z. never (sym (on-zero s) ∙ rw z at e) in
+    rw (e, path-down s t e, along-append, h (mainSide t) (main-below t z)) refl)
 
 pub less-deep : {n m : ℕ} → (n ≡ 0 → ⊥) → m ≡ mainSide n → depth m < depth n
 less-deep {n} h e = omega (arith, ap depth e, depth-main n h)

@@ -86,8 +86,8 @@ module _ (st : Stores) (site : List ℕ) (start kind destination count line : �
         let way = upOver (before (mainSides start) (mainSides line)) in
         let back = downOver (before (mainSides line) (mainSides start)) in
         let whole : walked st site (eqb kind 1) destination (Going count) (way ++ back) ≡ walk =
-            walked-append st site (eqb kind 1) destination (Going count) way back
-            ∙ ap (λ (w : Walk). walked st site (eqb kind 1) destination w back) (sym u) ∙ sym d in
+        walked-append st site (eqb kind 1) destination (Going count) way back
+        ∙ ap (λ (w : Walk). walked st site (eqb kind 1) destination w back) (sym u) ∙ sym d in
         rw (judged-fine (firstOf (whyTests st site (queryOf start kind destination count))) (sym f ∙ j))
         (ap whyBy whole)
 

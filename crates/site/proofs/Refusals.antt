@@ -1,0 +1,68 @@
+-- "A site is well-formed exactly if it and its stores draw none of 15 to 18": no other refusal stands among its tests, and by the law of
+-- tests in order it is well-formed exactly if no test is true.
+use Prim.Native.Nat.{ℕ, _≤_, _<_}
+use mathlib.Core.Bool.{Bool, true, false, _&&_}
+use mathlib.Core.List.{List, [], _∷_}
+use mathlib.Core.Logic.{_↔_}
+use mathlib.Core.Path.{_≡_, refl, sym, ap}
+use native.Mathlib.Omega.{arith}
+use lib.Dec.{leb}
+use borrow.Author.Tests.{leb-true, ne-eqb}
+use Rattle.coupler.proofs.StepLaws.{judged-fine, judged-refused}
+use Rattle.coupler.specs.Step.{judgedBy}
+use Rattle.frame.specs.Order.{Test, firstOf, NoneOf, FirstIs, _gives_, refuse}
+use Rattle.frame.specs.Refusals.{number}
+use Rattle.frame.specs.declared.Refusal.{Refusal}
+use Rattle.octets.proofs.Below.{and-true}
+use Rattle.site.specs.Records.{recordsOf, lineOf}
+use Rattle.site.specs.Stores.{Stores}
+use Rattle.site.specs.WellFormed.{recordsTests, siteTests}
+use Rattle.coupler.specs.declared.Judged.the-variants.{Fine, Refused as NotFine}
+use Rattle.frame.proofs.Order.{passed-iff, refused-iff as order-iff, givesNot, once-iff}
+
+-- every test gives 15, 16, 17 or 18
+abbrev pub areSites : List Test → Bool
+areSites [] = true
+areSites (b gives r ∷ ts) = leb 15 (number r) && (leb (number r) 18 && areSites ts)
+
+records-are : (st : Stores) (lines : List ℕ) (rs : List (List ℕ)) → areSites (recordsTests st lines rs) ≡ true
+records-are st lines [] = refl
+records-are st lines (r ∷ rs) = records-are st (lineOf r ∷ lines) rs
+
+pub site-are : (st : Stores) (site : List ℕ) → areSites (siteTests st site) ≡ true
+unfolding siteTests
+site-are st site = records-are st [] (recordsOf site)
+
+pub well-formed-iff : (st : Stores) (site : List ℕ) → judgedBy (firstOf (siteTests st site)) ≡ Fine ↔ NoneOf (siteTests st site)
+well-formed-iff st site = (
+  (λ e. passed-iff (siteTests st site) .0 (judged-fine (firstOf (siteTests st site)) (sym e))),
+  (λ n. ap judgedBy (passed-iff (siteTests st site) .1 n)),
+)
+
+pub refused-iff : (st : Stores) (site : List ℕ) (r : Refusal) → judgedBy (firstOf (siteTests st site)) ≡ NotFine r ↔ FirstIs (siteTests st site) r
+refused-iff st site r = (
+  (λ e. order-iff (siteTests st site) r .0 (judged-refused (firstOf (siteTests st site)) r (sym e))),
+  (λ f. ap judgedBy (order-iff (siteTests st site) r .1 f)),
+)
+
+numbered-by : (ts : List Test) (r : Refusal) → areSites ts ≡ true → firstOf ts ≡ refuse r → (15 ≤ number r) × (number r ≤ 18)
+numbered-by [] r a e = let z : _≡_ {A = ℕ} 0 1 = cc in absurd (omega arith)
+numbered-by (true gives q ∷ ts) r a e =
+    let h : q ≡ r = cc in
+    let x = and-true (leb 15 (number q)) (leb (number q) 18 && areSites ts) a in
+    let y = and-true (leb (number q) 18) (areSites ts) (x .1) in
+    (rw (← h) (leb-true 15 (number q) (x .0)), rw (← h) (leb-true (number q) 18 (y .0)))
+numbered-by (false gives q ∷ ts) r a e =
+    let x = and-true (leb 15 (number q)) (leb (number q) 18 && areSites ts) a in
+    numbered-by ts r (and-true (leb (number q) 18) (areSites ts) (x .1) .1) e
+
+-- a refused site draws one of 15 to 18
+pub site-numbers : (st : Stores) (site : List ℕ) (r : Refusal) → firstOf (siteTests st site) ≡ refuse r → (15 ≤ number r) × (number r ≤ 18)
+site-numbers st site r = numbered-by (siteTests st site) r (site-are st site)
+
+-- and no other
+pub gives-none-below : (ts : List Test) (r : Refusal) → areSites ts ≡ true → number r < 15 → givesNot ts r ≡ true
+gives-none-below [] r a h = refl
+gives-none-below (b gives q ∷ ts) r a h =
+    let x = and-true (leb 15 (number q)) (leb (number q) 18 && areSites ts) a in
+    rw (ne-eqb (number q) (number r) (λ e. omega (arith, leb-true 15 (number q) (x .0)))) (gives-none-below ts r (and-true (leb (number q) 18) (areSites ts) (x .1) .1) h)
