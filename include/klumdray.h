@@ -1,8 +1,8 @@
 /*
  * Klumdray: the surface of the proved library libklumdray.a, numbers and octets only.
  *
- * Document 01 ("Frame layouts", "Refusal numbers", "The coupler") says what each call does; each
- * call is proved to do it for every input.
+ * Document 01 ("Frame layouts", "Refusal numbers", "The coupler", "Sites and the tracer") says what
+ * each call does; each call is proved to do it for every input.
  *
  * Octets. A slice is a pointer and then a length; a null pointer with length 0 is an empty slice.
  * Otherwise the pointer must have that many octets behind it. All octets stay the caller's: a call
@@ -28,6 +28,8 @@
  *   13  lent room too small
  *   14  a number given by the caller is outside its range
  *   15  own line 00h, or a setting code not allowed
+ *   16  site length not a multiple of 12, or a wrong mark
+ *   17  one line twice in a site
  *   18  filter table missing or of wrong size
  *
  * A reader's answer is one number of 64 bits. With a refusal every bit above 7 is 0.
@@ -71,6 +73,46 @@
  * A size above 263 counts as none. After a TP1 frame that is not refused, the receiving side's size
  * is the frame's and its octets are the frame; those behind the frame and the other side's stay.
  * After a frame from IP, and after a refusal, the whole block is as it was.
+ *
+ * A site is a record of 12 octets for each coupler fitted, 0 to 255 of them, in any order.
+ *
+ *   octets  0 to  1  mark: 43h 50h
+ *   octet   2        line, 01h to FFh, each once at most
+ *   octets  3 to  6  four codes main to sub, as in a step
+ *   octets  7 to 10  four codes sub to main
+ *   octet  11        table number: 0 to 127 count in the project store, 128 to 254 in the site's
+ *                    own store from its start, FFh is none
+ *
+ * A store is filter tables of 8,192 octets one after the other, at most 128 in the project store
+ * and 127 in the site's own. FFh is allowed where no group code of that record is 1; every other
+ * number must lie in its store.
+ *
+ * A trace's answer. With a refusal every bit above 7 is 0.
+ *
+ *   bits  0 to  7  the number
+ *   bits  8 to 23  how many lines are listed, 1 to 256
+ *   bits 24 to 39  the forwardings made on the site
+ *   bits 40 to 63  0
+ *
+ * The list is the first octets of the room, three for each listed line, in rising order of the
+ * lines: line, count on arrival, couplers crossed. The octets behind it stay as they were.
+ *
+ * A why's answer is one number of 32 bits. With a refusal, and where the line is reached, every
+ * other bit is 0.
+ *
+ *   bits  0 to  7  the number
+ *   bits  8 to 15  the reason
+ *                    0  the line is reached
+ *                    1  no coupler fitted
+ *                    2  the destination is the coupler's own address
+ *                    3  the code is closed
+ *                    4  code 1, and the destination is not below
+ *                    5  code 1, and the destination is not above
+ *                    6  code 1, and the group is not in its table
+ *                    7  the count is used up
+ *   bits 16 to 23  the line of the coupler that stops it
+ *   bit  24        the direction: 0 main to sub, 1 sub to main
+ *   bits 25 to 31  0
  */
 #ifndef KLUMDRAY_H
 #define KLUMDRAY_H
@@ -172,6 +214,41 @@ uint64_t klumdray_step(uint8_t line, const uint8_t *codes, size_t codes_length,
                        const uint8_t *table, size_t table_length, uint8_t side, uint8_t medium,
                        uint8_t *memory, size_t memory_length, const uint8_t *octets, size_t length,
                        uint8_t *room, size_t room_length);
+
+/* The tracer's numbers and sizes. */
+enum {
+    KLUMDRAY_INDIVIDUAL = 0,
+    KLUMDRAY_GROUP = 1,
+    KLUMDRAY_RECORD_SIZE = 12,
+    KLUMDRAY_LISTED_SIZE = 3,
+    KLUMDRAY_LIST_ROOM_SIZE = 768
+};
+
+/*
+ * Lists the lines of a site that a telegram reaches from its starting line, which is always listed.
+ *   start: the starting line, any   kind: 0 individual, 1 group   destination: any
+ *   count: on the starting line, 0 to 7
+ *   site, project, own: the records, the project store and the site's own store, laid out as above
+ *   room: at least 768 octets
+ * Refusals, the first that applies: kind or count (14), room (13), a store's size (18), the site's
+ * length (16), then record by record: mark (16), line or codes (15), table number (18), the line a
+ * second time (17).
+ */
+uint64_t klumdray_trace(uint8_t start, uint8_t kind, uint16_t destination, uint8_t count,
+                        const uint8_t *site, size_t site_length, const uint8_t *project,
+                        size_t project_length, const uint8_t *own, size_t own_length,
+                        uint8_t *room, size_t room_length);
+
+/*
+ * Why a telegram does not reach a line: the first coupler on the path from the starting line that
+ * does not hand it on, and the first reason in the order of their numbers. A line is reached
+ * exactly if klumdray_trace lists it.
+ *   line: any   others as for klumdray_trace
+ * Refusals: those of klumdray_trace in its order, without 13.
+ */
+uint32_t klumdray_why(uint8_t start, uint8_t kind, uint16_t destination, uint8_t count,
+                      const uint8_t *site, size_t site_length, const uint8_t *project,
+                      size_t project_length, const uint8_t *own, size_t own_length, uint8_t line);
 
 /* The number in any answer: 0, or the refusal's. */
 static inline uint8_t klumdray_number(uint64_t answer)
@@ -317,6 +394,65 @@ static inline size_t klumdray_remembered_size(const uint8_t *memory, uint8_t sid
 static inline const uint8_t *klumdray_remembered(const uint8_t *memory, uint8_t side)
 {
     return klumdray_remembered_part(memory, side) + 2;
+}
+
+/* A trace's answer: how many lines are listed. */
+static inline size_t klumdray_listed(uint64_t answer)
+{
+    return (size_t)(answer >> 8 & 0xFFFFu);
+}
+
+/* A trace's answer: the forwardings made on the site. */
+static inline size_t klumdray_forwardings(uint64_t answer)
+{
+    return (size_t)(answer >> 24 & 0xFFFFu);
+}
+
+/* The list in the room of a trace: line, count on arrival and couplers crossed of the listed line
+ * at a place, counted from 0. */
+static inline uint8_t klumdray_listed_line(const uint8_t *room, size_t place)
+{
+    return room[3u * place];
+}
+
+static inline uint8_t klumdray_listed_count(const uint8_t *room, size_t place)
+{
+    return room[3u * place + 1u];
+}
+
+static inline uint8_t klumdray_listed_crossed(const uint8_t *room, size_t place)
+{
+    return room[3u * place + 2u];
+}
+
+/* The reason in a why's answer. */
+enum {
+    KLUMDRAY_REACHED = 0,
+    KLUMDRAY_NOT_FITTED = 1,
+    KLUMDRAY_OWN_ADDRESS = 2,
+    KLUMDRAY_CLOSED = 3,
+    KLUMDRAY_NOT_BELOW = 4,
+    KLUMDRAY_NOT_ABOVE = 5,
+    KLUMDRAY_NOT_IN_TABLE = 6,
+    KLUMDRAY_COUNT_USED_UP = 7
+};
+
+static inline uint8_t klumdray_reason(uint32_t answer)
+{
+    return (uint8_t)(answer >> 8 & 0xFFu);
+}
+
+/* A why's answer: the line of the coupler that stops the telegram. */
+static inline uint8_t klumdray_stopping_line(uint32_t answer)
+{
+    return (uint8_t)(answer >> 16 & 0xFFu);
+}
+
+/* A why's answer: the side that this coupler receives the telegram from, KLUMDRAY_MAIN where it
+ * goes from main to sub, KLUMDRAY_SUB where it goes from sub to main. */
+static inline uint8_t klumdray_stopping_side(uint32_t answer)
+{
+    return (uint8_t)(answer >> 24 & 1u);
 }
 
 #ifdef __cplusplus

@@ -1,6 +1,6 @@
 /*
- * The C surface as a C program meets it: empty slices, document 01's P1 to P6, P7's datagram, and
- * steps of a coupler with P7 to P10.
+ * The C surface as a C program meets it: empty slices, document 01's P1 to P6, P7's datagram, steps
+ * of a coupler with P7 to P10, and sites with P12 and P13.
  */
 #include "klumdray.h"
 
@@ -338,6 +338,194 @@ static void refused_steps(void)
     check("refused memories are untouched", is_blank(memory) && is_blank(closed.memory));
 }
 
+enum { MOST_RECORDS = 4 };
+
+/* A site of up to four couplers, with one filter table in each store, and a room. */
+struct site {
+    uint8_t records[MOST_RECORDS * KLUMDRAY_RECORD_SIZE];
+    size_t length, project_length, own_length;
+    uint8_t room[KLUMDRAY_LIST_ROOM_SIZE + 8];
+};
+
+static uint8_t project[KLUMDRAY_TABLE_SIZE], own[KLUMDRAY_TABLE_SIZE];
+
+/* Couplers without a filter table, whose eight codes are all as given but broadcast's, open. */
+static struct site site(const uint8_t *lines, size_t couplers, uint8_t code)
+{
+    struct site s;
+    size_t i;
+    memset(&s, 0, sizeof s);
+    memset(s.room, 0x55, sizeof s.room);
+    s.length = couplers * KLUMDRAY_RECORD_SIZE;
+    for (i = 0; i < couplers; i++) {
+        uint8_t *record = s.records + i * KLUMDRAY_RECORD_SIZE;
+        record[0] = 0x43;
+        record[1] = 0x50;
+        record[2] = lines[i];
+        memset(record + 3, code, 8);
+        record[4] = record[8] = 2;
+        record[11] = 0xFF;
+    }
+    return s;
+}
+
+static uint64_t trace(struct site *s, uint8_t start, uint8_t kind, uint16_t destination,
+                      uint8_t count)
+{
+    return klumdray_trace(start, kind, destination, count, s->records, s->length, project,
+                          s->project_length, own, s->own_length, s->room, sizeof s->room);
+}
+
+static uint32_t why(const struct site *s, uint8_t start, uint8_t kind, uint16_t destination,
+                    uint8_t count, uint8_t line)
+{
+    return klumdray_why(start, kind, destination, count, s->records, s->length, project,
+                        s->project_length, own, s->own_length, line);
+}
+
+/* The answer, the list and nothing behind it. */
+static int is_traced(const struct site *s, uint64_t answer, const uint8_t *list, size_t n,
+                     size_t forwardings)
+{
+    return klumdray_number(answer) == 0 && answer >> 40 == 0 &&
+           klumdray_listed(answer) * KLUMDRAY_LISTED_SIZE == n &&
+           klumdray_forwardings(answer) == forwardings && memcmp(s->room, list, n) == 0 &&
+           untouched(s->room + n, sizeof s->room - n);
+}
+
+static const uint8_t LINES[4] = {0x20, 0x40, 0x45, 0x47};
+
+static void traces_of_groups(void)
+{
+    static const uint8_t two[] = {0x00, 0, 2, 0x40, 1, 1, 0x45, 0, 2, 0x47, 2, 0};
+    static const uint8_t none[] = {0x47, 0, 0};
+    static const uint8_t seven[] = {0x00, 7, 2, 0x20, 7, 3, 0x40, 7, 1, 0x45, 7, 2, 0x47, 7, 0};
+    struct site s = site(LINES, 4, 2);
+    uint64_t answer = trace(&s, 0x47, KLUMDRAY_GROUP, 0x1234, 2);
+    check("P12 with count 2", is_traced(&s, answer, two, sizeof two, 3));
+    check("P12's second listed line",
+          klumdray_listed_line(s.room, 1) == 0x40 && klumdray_listed_count(s.room, 1) == 1 &&
+              klumdray_listed_crossed(s.room, 1) == 1);
+    s = site(LINES, 4, 2);
+    answer = trace(&s, 0x47, KLUMDRAY_GROUP, 0x1234, 0);
+    check("P12 with count 0", is_traced(&s, answer, none, sizeof none, 0));
+    s = site(LINES, 4, 2);
+    answer = trace(&s, 0x47, KLUMDRAY_GROUP, 0x1234, 7);
+    check("P12 with count 7", is_traced(&s, answer, seven, sizeof seven, 4));
+    s = site(LINES, 0, 2);
+    answer = klumdray_trace(0x47, KLUMDRAY_GROUP, 0x1234, 0, NULL, 0, NULL, 0, NULL, 0, s.room,
+                            KLUMDRAY_LIST_ROOM_SIZE);
+    check("a site of null slices", is_traced(&s, answer, none, sizeof none, 0));
+}
+
+static void traces_of_individual_addresses(void)
+{
+    static const uint8_t own_address[] = {0x00, 5, 1, 0x20, 6, 0, 0x40, 4, 2};
+    static const uint8_t not_above[] = {0x40, 5, 1, 0x47, 6, 0};
+    struct site s = site(LINES, 4, 0);
+    size_t i;
+    for (i = 0; i < 4; i++)
+        s.records[12 * i + 3] = s.records[12 * i + 7] = 1;
+    check("P13 to 4700h",
+          is_traced(&s, trace(&s, 0x20, KLUMDRAY_INDIVIDUAL, 0x4700, 6), own_address, 9, 2));
+    memset(s.room, 0x55, sizeof s.room);
+    check("P13 to 4901h",
+          is_traced(&s, trace(&s, 0x47, KLUMDRAY_INDIVIDUAL, 0x4901, 6), not_above, 6, 1));
+}
+
+static void traces_with_tables(void)
+{
+    static const uint8_t both[] = {0x00, 7, 0, 0x20, 7, 1, 0x40, 7, 1};
+    struct site s = site(LINES, 2, 1);
+    s.project_length = s.own_length = KLUMDRAY_TABLE_SIZE;
+    s.records[11] = 0;
+    s.records[23] = 128;
+    memset(project, 0, sizeof project);
+    memset(own, 0, sizeof own);
+    project[0x1234 / 8] = 1u << 0x1234 % 8;
+    check("a group in the project store's table",
+          is_traced(&s, trace(&s, 0x00, KLUMDRAY_GROUP, 0x1234, 7), both, 6, 1));
+    own[0x1234 / 8] = 1u << 0x1234 % 8;
+    memset(s.room, 0x55, sizeof s.room);
+    check("and in the site's own",
+          is_traced(&s, trace(&s, 0x00, KLUMDRAY_GROUP, 0x1234, 7), both, 9, 2));
+}
+
+/* The number of a refusal, if trace and why give the same and the room stays; else 255. */
+static uint64_t refused_site(struct site s)
+{
+    uint64_t answer = trace(&s, 0x00, KLUMDRAY_GROUP, 0x1234, 7);
+    uint64_t other = why(&s, 0x00, KLUMDRAY_GROUP, 0x1234, 7, 0x20);
+    return answer == other && untouched(s.room, sizeof s.room) ? answer : 255;
+}
+
+static void refused_sites(void)
+{
+    static const uint8_t twice[] = {0x20, 0x20};
+    struct site s = site(LINES, 4, 2);
+    check("a room of 767 octets is 13",
+          klumdray_trace(0, 1, 0x1234, 7, s.records, 48, NULL, 0, NULL, 0, s.room, 767) == 13);
+    check("a null room is 13",
+          klumdray_trace(0, 1, 0x1234, 7, s.records, 48, NULL, 0, NULL, 0, NULL, 0) == 13);
+    check("kind 2 is 14", trace(&s, 0, 2, 0x1234, 7) == 14 && why(&s, 0, 2, 0x1234, 7, 0) == 14);
+    check("count 8 is 14", trace(&s, 0, 1, 0x1234, 8) == 14 && why(&s, 0, 1, 0x1234, 8, 0) == 14);
+    check("14 comes before 13",
+          klumdray_trace(0, 2, 0x1234, 7, NULL, 0, NULL, 0, NULL, 0, NULL, 0) == 14);
+    check("those rooms are untouched", untouched(s.room, sizeof s.room));
+    s.records[2] = 0x00;
+    check("line 00h in a site is 15", refused_site(s) == 15);
+    s.records[1] = 0x51;
+    check("a wrong mark is 16", refused_site(s) == 16);
+    s = site(LINES, 4, 2);
+    s.length = 47;
+    check("a site of 47 octets is 16", refused_site(s) == 16);
+    s.own_length = 1;
+    check("a store of 1 octet is 18", refused_site(s) == 18);
+    check("one line twice is 17", refused_site(site(twice, 2, 2)) == 17);
+    check("a missing filter table is 18", refused_site(site(LINES, 4, 1)) == 18);
+}
+
+/* A why's answer that is a reason. */
+static int is_stopped(uint32_t answer, uint8_t reason, uint8_t line, uint8_t side)
+{
+    return klumdray_number(answer) == 0 && klumdray_reason(answer) == reason &&
+           klumdray_stopping_line(answer) == line && klumdray_stopping_side(answer) == side &&
+           answer >> 25 == 0;
+}
+
+static void reasons(void)
+{
+    struct site s = site(LINES, 4, 2);
+    check("P12's lines are reached", why(&s, 0x47, KLUMDRAY_GROUP, 0x1234, 2, 0x45) == 0);
+    check("the count is used up",
+          is_stopped(why(&s, 0x47, KLUMDRAY_GROUP, 0x1234, 2, 0x20), KLUMDRAY_COUNT_USED_UP, 0x20,
+                     KLUMDRAY_MAIN));
+    check("no coupler fitted",
+          is_stopped(why(&s, 0x47, KLUMDRAY_GROUP, 0x1234, 2, 0x49), KLUMDRAY_NOT_FITTED, 0x49,
+                     KLUMDRAY_MAIN));
+    check("its own address",
+          is_stopped(why(&s, 0x47, KLUMDRAY_INDIVIDUAL, 0x4700, 6, 0x20), KLUMDRAY_OWN_ADDRESS,
+                     0x47, KLUMDRAY_SUB));
+    s = site(LINES, 4, 0);
+    check("the code is closed",
+          is_stopped(why(&s, 0x20, KLUMDRAY_GROUP, 0x1234, 0, 0x47), KLUMDRAY_CLOSED, 0x20,
+                     KLUMDRAY_SUB));
+    s.records[3] = s.records[7] = s.records[15] = s.records[19] = 1;
+    check("code 1 and not below",
+          is_stopped(why(&s, 0x40, KLUMDRAY_INDIVIDUAL, 0x3001, 6, 0x20), KLUMDRAY_NOT_BELOW, 0x20,
+                     KLUMDRAY_MAIN));
+    check("code 1 and not above",
+          is_stopped(why(&s, 0x40, KLUMDRAY_INDIVIDUAL, 0x4901, 6, 0x20), KLUMDRAY_NOT_ABOVE, 0x40,
+                     KLUMDRAY_SUB));
+    s = site(LINES, 1, 1);
+    s.own_length = KLUMDRAY_TABLE_SIZE;
+    s.records[11] = 128;
+    memset(own, 0, sizeof own);
+    check("code 1 and not in its table",
+          is_stopped(why(&s, 0x00, KLUMDRAY_GROUP, 0x1234, 6, 0x20), KLUMDRAY_NOT_IN_TABLE, 0x20,
+                     KLUMDRAY_MAIN));
+}
+
 int main(void)
 {
     empty_slices();
@@ -353,6 +541,11 @@ int main(void)
     steps_for_itself_and_to_ip();
     steps_with_a_table();
     refused_steps();
+    traces_of_groups();
+    traces_of_individual_addresses();
+    traces_with_tables();
+    refused_sites();
+    reasons();
     printf("%u passed, %u failed\n", passed, failed);
     return failed == 0 ? 0 : 1;
 }

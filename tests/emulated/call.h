@@ -1,9 +1,9 @@
 /*
  * One call as it goes to the library and comes back, on a machine whose programs cannot link it.
  * A request is this head, the octets lent to read, and the room as lent; for a step, the codes and
- * the filter table stand before the octets, and the memory before the room. An answer is the
- * library's number in 8 octets, the memory and the room as left. Both machines have the low octet
- * first.
+ * the filter table stand before the octets, and the memory before the room; for the tracer, the
+ * two stores stand before the octets, which are the site's records. An answer is the library's
+ * number in 8 octets, the memory and the room as left. Both machines have the low octet first.
  */
 #ifndef CALL_H
 #define CALL_H
@@ -16,14 +16,30 @@ enum call {
     CALL_CEMI_WRITE,
     CALL_ROUTING_READ,
     CALL_ROUTING_WRITE,
-    CALL_STEP
+    CALL_STEP,
+    CALL_TRACE,
+    CALL_WHY
 };
 
 /* A slice of length 0 is lent as the caller lent it: as a null pointer, or not. */
-enum { NULL_OCTETS = 1, NULL_ROOM = 2, NULL_CODES = 4, NULL_TABLE = 8, NULL_MEMORY = 16 };
+enum {
+    NULL_OCTETS = 1,
+    NULL_ROOM = 2,
+    NULL_CODES = 4,
+    NULL_TABLE = 8,
+    NULL_MEMORY = 16,
+    NULL_PROJECT = 32,
+    NULL_OWN = 64
+};
 
-/* More octets than any test lends, in all and as a filter table. */
-enum { MOST_OCTETS = 1 << 18, MOST_TABLE = 1 << 14 };
+/* More octets than any test lends: in all but the stores, as a filter table, as a store; and so
+ * behind a head. */
+enum {
+    MOST_OCTETS = 1 << 18,
+    MOST_TABLE = 1 << 14,
+    MOST_STORE = 1 << 21,
+    MOST_REQUEST = MOST_OCTETS + 2 * MOST_STORE
+};
 
 struct head {
     __UINT64_TYPE__ octets;
@@ -31,6 +47,8 @@ struct head {
     __UINT64_TYPE__ codes;
     __UINT64_TYPE__ table;
     __UINT64_TYPE__ memory;
+    __UINT64_TYPE__ project;
+    __UINT64_TYPE__ own;
     __UINT16_TYPE__ call;
     __UINT16_TYPE__ null;
     __UINT16_TYPE__ source;
@@ -45,9 +63,13 @@ struct head {
     __UINT8_TYPE__ line;
     __UINT8_TYPE__ side;
     __UINT8_TYPE__ medium;
-    /* 1: the filter table is the one sent last, and is not in this request. */
+    __UINT8_TYPE__ start;
+    __UINT8_TYPE__ kind;
+    /* 1: the filter table, or the store, is the one sent last, and is not in this request. */
     __UINT8_TYPE__ table_kept;
-    __UINT8_TYPE__ unused[5];
+    __UINT8_TYPE__ project_kept;
+    __UINT8_TYPE__ own_kept;
+    __UINT8_TYPE__ unused[1];
 };
 
 #endif

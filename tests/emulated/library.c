@@ -7,6 +7,7 @@
 
 typedef __UINT8_TYPE__ uint8_t;
 typedef __UINT16_TYPE__ uint16_t;
+typedef __UINT32_TYPE__ uint32_t;
 typedef __UINT64_TYPE__ uint64_t;
 typedef __SIZE_TYPE__ size_t;
 
@@ -29,6 +30,13 @@ uint64_t klumdray_step(uint8_t line, const uint8_t *codes, size_t codes_length,
                        const uint8_t *table, size_t table_length, uint8_t side, uint8_t medium,
                        uint8_t *memory, size_t memory_length, const uint8_t *octets, size_t length,
                        uint8_t *room, size_t room_length);
+uint64_t klumdray_trace(uint8_t start, uint8_t kind, uint16_t destination, uint8_t count,
+                        const uint8_t *site, size_t site_length, const uint8_t *project,
+                        size_t project_length, const uint8_t *own, size_t own_length,
+                        uint8_t *room, size_t room_length);
+uint32_t klumdray_why(uint8_t start, uint8_t kind, uint16_t destination, uint8_t count,
+                      const uint8_t *site, size_t site_length, const uint8_t *project,
+                      size_t project_length, const uint8_t *own, size_t own_length, uint8_t line);
 
 __asm__(".globl _start\n_start:\n xorl %ebp, %ebp\n andq $-16, %rsp\n call serve\n");
 
@@ -82,13 +90,13 @@ int bcmp(const void *a, const void *b, size_t n)
     return memcmp(a, b, n);
 }
 
-static uint8_t request[sizeof(struct head) + MOST_OCTETS];
+static uint8_t request[sizeof(struct head) + MOST_REQUEST];
 static uint8_t answer[sizeof(uint64_t) + MOST_OCTETS];
-static uint8_t table[MOST_TABLE];
+static uint8_t table[MOST_TABLE], project[MOST_STORE], own[MOST_STORE];
 
 /* Where a request's parts stand, or null. */
 struct lent {
-    const uint8_t *octets, *codes, *table;
+    const uint8_t *octets, *codes, *table, *project, *own;
     uint8_t *memory, *room;
 };
 
@@ -96,6 +104,18 @@ static uint64_t do_step(const struct head *h, struct lent lent)
 {
     return klumdray_step(h->line, lent.codes, h->codes, lent.table, h->table, h->side, h->medium,
                          lent.memory, h->memory, lent.octets, h->octets, lent.room, h->room);
+}
+
+static uint64_t do_trace(const struct head *h, struct lent lent)
+{
+    return klumdray_trace(h->start, h->kind, h->destination, h->count, lent.octets, h->octets,
+                          lent.project, h->project, lent.own, h->own, lent.room, h->room);
+}
+
+static uint64_t do_why(const struct head *h, struct lent lent)
+{
+    return klumdray_why(h->start, h->kind, h->destination, h->count, lent.octets, h->octets,
+                        lent.project, h->project, lent.own, h->own, h->line);
 }
 
 static uint64_t do_call(const struct head *h, struct lent lent)
@@ -124,6 +144,10 @@ static uint64_t do_call(const struct head *h, struct lent lent)
                                       octets, h->octets, room, h->room);
     case CALL_STEP:
         return do_step(h, lent);
+    case CALL_TRACE:
+        return do_trace(h, lent);
+    case CALL_WHY:
+        return do_why(h, lent);
     default:
         kernel(EXIT, 2, 0, 0);
         return 0;
@@ -135,12 +159,23 @@ static size_t table_sent(const struct head *h)
     return h->table_kept ? 0 : h->table;
 }
 
+static size_t project_sent(const struct head *h)
+{
+    return h->project_kept ? 0 : h->project;
+}
+
+static size_t own_sent(const struct head *h)
+{
+    return h->own_kept ? 0 : h->own;
+}
+
 static size_t wanted(size_t have)
 {
     const struct head *h = (const struct head *)request;
     if (have < sizeof *h)
         return sizeof *h;
-    return sizeof *h + h->codes + table_sent(h) + h->octets + h->memory + h->room;
+    return sizeof *h + h->codes + table_sent(h) + project_sent(h) + own_sent(h) + h->octets +
+           h->memory + h->room;
 }
 
 static void receive(void)
@@ -168,14 +203,20 @@ static void reply(size_t n)
 static struct lent lend(const struct head *h)
 {
     uint8_t *codes = request + sizeof *h;
-    uint8_t *sent = codes + h->codes;
-    uint8_t *octets = sent + table_sent(h);
+    uint8_t *table_here = codes + h->codes;
+    uint8_t *project_here = table_here + table_sent(h);
+    uint8_t *own_here = project_here + project_sent(h);
+    uint8_t *octets = own_here + own_sent(h);
     uint8_t *memory = answer + sizeof(uint64_t);
-    memcpy(table, sent, table_sent(h));
+    memcpy(table, table_here, table_sent(h));
+    memcpy(project, project_here, project_sent(h));
+    memcpy(own, own_here, own_sent(h));
     memcpy(memory, octets + h->octets, h->memory + h->room);
     return (struct lent){.octets = h->null & NULL_OCTETS ? 0 : octets,
                          .codes = h->null & NULL_CODES ? 0 : codes,
                          .table = h->null & NULL_TABLE ? 0 : table,
+                         .project = h->null & NULL_PROJECT ? 0 : project,
+                         .own = h->null & NULL_OWN ? 0 : own,
                          .memory = h->null & NULL_MEMORY ? 0 : memory,
                          .room = h->null & NULL_ROOM ? 0 : memory + h->memory};
 }

@@ -78,7 +78,9 @@ static struct iovec part(const void *octets, size_t n)
 static const uint8_t *exchange(struct iovec *parts, int count, size_t n)
 {
     static __thread uint8_t answer[sizeof(uint64_t) + MOST_OCTETS];
-    size_t left = MOST_OCTETS;
+    size_t left = MOST_REQUEST;
+    if (n > MOST_OCTETS)
+        fail("more octets than the library's process gives");
     for (int i = 1; i < count; left -= parts[i++].iov_len)
         if (parts[i].iov_len > left)
             fail("more octets than the library's process takes");
@@ -114,18 +116,28 @@ static uint64_t hand_on(struct head h, const uint8_t *octets, size_t n, uint8_t 
     return number_of(answer);
 }
 
-/* Whether the table is the one sent last; if not, it is now. Sent with each step it would take
+/* A part that many calls have in common, as it was sent last. Sent with each call it would take
  * most of the time. */
-static uint8_t is_kept(const uint8_t *table, size_t n)
+struct kept {
+    uint8_t *octets;
+    size_t length;
+};
+
+static __thread struct kept last_table, last_project, last_own;
+
+/* Whether a part is the one sent last; if not, it is now. */
+static uint8_t is_kept(struct kept *last, const uint8_t *octets, size_t n, size_t most)
 {
-    static __thread uint8_t last[MOST_TABLE];
-    static __thread size_t last_length = 0;
-    if (n > MOST_TABLE)
-        fail("a larger filter table than the library's process takes");
-    if (n == last_length && (n == 0 || memcmp(table, last, n) == 0))
+    if (n > most)
+        fail("a larger table or store than the library's process takes");
+    if (n == last->length && (n == 0 || memcmp(octets, last->octets, n) == 0))
         return 1;
-    last_length = n;
-    copy(last, table, n);
+    free(last->octets);
+    last->octets = malloc(n + 1);
+    if (!last->octets)
+        fail("malloc");
+    last->length = n;
+    copy(last->octets, octets, n);
     return 0;
 }
 
@@ -214,7 +226,7 @@ uint64_t klumdray_step(uint8_t line, const uint8_t *codes, size_t codes_length,
                      .line = line,
                      .side = side,
                      .medium = medium,
-                     .table_kept = is_kept(table, table_length)};
+                     .table_kept = is_kept(&last_table, table, table_length, MOST_TABLE)};
     h.null = (uint16_t)((octets ? 0 : NULL_OCTETS) | (room ? 0 : NULL_ROOM) |
                         (codes ? 0 : NULL_CODES) | (table ? 0 : NULL_TABLE) |
                         (memory ? 0 : NULL_MEMORY));
@@ -228,4 +240,58 @@ uint64_t klumdray_step(uint8_t line, const uint8_t *codes, size_t codes_length,
     copy(memory, answer + sizeof(uint64_t), memory_length);
     copy(room, answer + sizeof(uint64_t) + memory_length, room_length);
     return number_of(answer);
+}
+
+/* A site's records and stores, as lent to the tracer. */
+struct site {
+    const uint8_t *records, *project, *own;
+    size_t records_length, project_length, own_length;
+};
+
+static uint64_t hand_on_site(struct head h, struct site site, uint8_t *room, size_t m)
+{
+    h.octets = site.records_length;
+    h.project = site.project_length;
+    h.own = site.own_length;
+    h.room = m;
+    h.project_kept = is_kept(&last_project, site.project, site.project_length, MOST_STORE);
+    h.own_kept = is_kept(&last_own, site.own, site.own_length, MOST_STORE);
+    h.null = (uint16_t)((site.records ? 0 : NULL_OCTETS) | (room ? 0 : NULL_ROOM) |
+                        (site.project ? 0 : NULL_PROJECT) | (site.own ? 0 : NULL_OWN));
+    struct iovec parts[] = {part(&h, sizeof h),
+                            part(site.project, h.project_kept ? 0 : site.project_length),
+                            part(site.own, h.own_kept ? 0 : site.own_length),
+                            part(site.records, site.records_length),
+                            part(room, m)};
+    const uint8_t *answer = exchange(parts, 5, m);
+    copy(room, answer + sizeof(uint64_t), m);
+    return number_of(answer);
+}
+
+uint64_t klumdray_trace(uint8_t start, uint8_t kind, uint16_t destination, uint8_t count,
+                        const uint8_t *site, size_t site_length, const uint8_t *project,
+                        size_t project_length, const uint8_t *own, size_t own_length,
+                        uint8_t *room, size_t room_length)
+{
+    struct head h = {.call = CALL_TRACE,
+                     .start = start,
+                     .kind = kind,
+                     .destination = destination,
+                     .count = count};
+    struct site lent = {site, project, own, site_length, project_length, own_length};
+    return hand_on_site(h, lent, room, room_length);
+}
+
+uint32_t klumdray_why(uint8_t start, uint8_t kind, uint16_t destination, uint8_t count,
+                      const uint8_t *site, size_t site_length, const uint8_t *project,
+                      size_t project_length, const uint8_t *own, size_t own_length, uint8_t line)
+{
+    struct head h = {.call = CALL_WHY,
+                     .start = start,
+                     .kind = kind,
+                     .destination = destination,
+                     .count = count,
+                     .line = line};
+    struct site lent = {site, project, own, site_length, project_length, own_length};
+    return (uint32_t)hand_on_site(h, lent, NULL, 0);
 }

@@ -1,19 +1,26 @@
 -- The numbers that cross the surface: include/klumdray.h says the same in its words.
 use Prim.Native.Nat.{ℕ, _+_, _*_, _%_, _^_, _<_}
-use mathlib.Core.Path.{_≡_}
-use mathlib.Core.List.{List}
 use mathlib.Core.Bool.{Bool, cond, _&&_}
+use mathlib.Core.List.{List}
+use mathlib.Core.Path.{_≡_}
 use lib.Dec.{ltb, eqb}
-use Rattle.octets.specs.Octets.{weigh}
+use lib.ListN.{length}
+use Rattle.cemi.specs.Layout.{plain}
+use Rattle.cemi.specs.Writing.{messageInRange}
+use Rattle.cemi.specs.declared.CemiAnswer.{CemiAnswer}
+use Rattle.cemi.specs.declared.Codes.the-variants.{All, IndicationOnly}
+use Rattle.cemi.specs.declared.Message.{Message}
+use Rattle.frame.specs.Refusals.{number}
+use Rattle.frame.specs.Valid.{inRange}
+use Rattle.frame.specs.Writing.{written, roomAfter}
 use Rattle.frame.specs.declared.Meaning.{Meaning}
 use Rattle.frame.specs.declared.Written.{Written}
-use Rattle.frame.specs.declared.Written.the-variants.{Put, Refused as Unwritten}
-use Rattle.frame.specs.Refusals.{number}
-use Rattle.frame.specs.Writing.{written, roomAfter}
-use Rattle.tp1.specs.declared.Tp1Answer.{Tp1Answer}
+use Rattle.octets.specs.Octets.{weigh}
+use Rattle.routing.specs.Layout.{routingOctets}
+use Rattle.tp1.specs.Layout.{tp1Octets}
 use Rattle.tp1.specs.declared.Tp1Answer.the-variants.{Frame, Refused}
-use Rattle.cemi.specs.declared.Message.{Message}
-use Rattle.cemi.specs.declared.CemiAnswer.{CemiAnswer}
+use Rattle.tp1.specs.declared.Tp1Answer.{Tp1Answer}
+use Rattle.frame.specs.declared.Written.the-variants.{Put, Refused as Unwritten}
 use Rattle.cemi.specs.declared.CemiAnswer.the-variants.{Frame as Message-is, Refused as Message-not}
 
 -- one octet: format (bit 0), repeat flag (1), priority (2 and 3), AT (4), hop count (5 to 7)
@@ -73,3 +80,13 @@ Sized (Unwritten r) = Unit {0}
 pub record WroteNumber (ranged : Bool) (octets room : List ℕ) (answer : ℕ) (after : List ℕ) : Type 0 where
   pub answered : answer ≡ writtenNumber (written ranged octets room)
   pub left : after ≡ roomAfter (written ranged octets room) octets room
+
+-- each format's writer: the flags are flags, and the inner writer's numbers are in range
+abbrev pub WroteTp1 : Bool → Meaning → List ℕ → List ℕ → ℕ → List ℕ → Type 0
+WroteTp1 flags m payload room answer after = WroteNumber (flags && inRange m (length payload)) (tp1Octets m payload) room answer after
+
+abbrev pub WroteCemi : Bool → Message → List ℕ → List ℕ → ℕ → List ℕ → Type 0
+WroteCemi flags x payload room answer after = WroteNumber (flags && messageInRange All x (length payload)) (plain x payload) room answer after
+
+abbrev pub WroteRouting : Bool → Message → List ℕ → List ℕ → ℕ → List ℕ → Type 0
+WroteRouting flags x payload room answer after = WroteNumber (flags && messageInRange IndicationOnly x (length payload)) (routingOctets x payload) room answer after

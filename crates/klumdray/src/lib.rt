@@ -7,22 +7,17 @@ ghost use mathlib.Core.Path.{_≡_};
 ghost use mathlib.Core.Bool.{_&&_};
 ghost use lib.ListN.{length};
 ghost use Rattle.octets.specs.Check.{checkOctet};
-ghost use Rattle.frame.specs.Valid.{inRange};
 ghost use lib.Dec.{ltb};
-ghost use Rattle.tp1.specs.Layout.{tp1Octets};
 ghost use Rattle.tp1.specs.Reading.{readTp1, payloadIn};
-ghost use Rattle.cemi.specs.declared.Codes.the-variants.{All, IndicationOnly};
-ghost use Rattle.cemi.specs.Layout.{plain};
+ghost use Rattle.cemi.specs.declared.Codes.the-variants.{All};
 ghost use Rattle.cemi.specs.Reading.{readCemi, payloadIn as cemiPayload};
-ghost use Rattle.cemi.specs.Writing.{messageInRange};
-ghost use Rattle.routing.specs.Layout.{routingOctets};
 ghost use Rattle.routing.specs.Reading.{readRouting, routedPayload};
 ghost use Rattle.coupler.specs.Step.{settingOf};
 ghost use Rattle.site.specs.Stores.{stores};
 ghost use Rattle.tracer.specs.Listing.{queryOf};
 ghost use Rattle.tracer.specs.Why.{answerWhy};
 ghost use Rattle.klumdray.specs.Block.{codesIn, lentRight, SteppedThrough};
-ghost use Rattle.klumdray.specs.Numbers.{tp1Number, cemiNumber, areFlags, meaningFrom, messageFrom, WroteNumber};
+ghost use Rattle.klumdray.specs.Numbers.{tp1Number, cemiNumber, areFlags, meaningFrom, messageFrom, WroteTp1, WroteCemi, WroteRouting};
 ghost use Rattle.klumdray.specs.Traces.{explanationNumber, TracedThrough};
 use cemi::Codes;
 
@@ -54,7 +49,7 @@ pub extern "C" fn klumdray_tp1_write(
     payload: &[u8],
     room: &mut [u8],
 ) -> u64
-    ensures { λ r. ⌜ WroteNumber (areFlags extended first group && inRange (meaningFrom extended first priority source group destination count) (length (now (payload .entry)))) (tp1Octets (meaningFrom extended first priority source group destination count) (now (payload .entry))) (now (room .entry)) r (now (room .exit)) ⌝ }
+    ensures { λ r. ⌜ WroteTp1 (areFlags extended first group) (meaningFrom extended first priority source group destination count) (now (payload .entry)) (now (room .entry)) r (now (room .exit)) ⌝ }
 {
     if numbers::are_flags(extended, first, group) {
         let meaning = numbers::meaning_from(
@@ -96,7 +91,7 @@ pub extern "C" fn klumdray_cemi_write(
     payload: &[u8],
     room: &mut [u8],
 ) -> u64
-    ensures { λ r. ⌜ WroteNumber ((areFlags extended first group && ltb error 2) && messageInRange All (messageFrom code error (meaningFrom extended first priority source group destination count)) (length (now (payload .entry)))) (plain (messageFrom code error (meaningFrom extended first priority source group destination count)) (now (payload .entry))) (now (room .entry)) r (now (room .exit)) ⌝ }
+    ensures { λ r. ⌜ WroteCemi (areFlags extended first group && ltb error 2) (messageFrom code error (meaningFrom extended first priority source group destination count)) (now (payload .entry)) (now (room .entry)) r (now (room .exit)) ⌝ }
 {
     let flags = numbers::are_flags(extended, first, group) & (error < 2);
     if flags {
@@ -140,7 +135,7 @@ pub extern "C" fn klumdray_routing_write(
     payload: &[u8],
     room: &mut [u8],
 ) -> u64
-    ensures { λ r. ⌜ WroteNumber ((areFlags extended first group && ltb error 2) && messageInRange IndicationOnly (messageFrom code error (meaningFrom extended first priority source group destination count)) (length (now (payload .entry)))) (routingOctets (messageFrom code error (meaningFrom extended first priority source group destination count)) (now (payload .entry))) (now (room .entry)) r (now (room .exit)) ⌝ }
+    ensures { λ r. ⌜ WroteRouting (areFlags extended first group && ltb error 2) (messageFrom code error (meaningFrom extended first priority source group destination count)) (now (payload .entry)) (now (room .entry)) r (now (room .exit)) ⌝ }
 {
     let flags = numbers::are_flags(extended, first, group) & (error < 2);
     if flags {

@@ -6,6 +6,7 @@ mod inputs;
 mod measure;
 mod routing;
 mod tp1;
+mod tracer;
 
 fn main() {
     println!("Proved library beside the reference in Rust, both built for release.");
@@ -20,13 +21,20 @@ fn main() {
     println!(
         "parts goes through the bindings. From one medium to another is a coupler step with a"
     );
-    println!("filter table; its size is the frame's on TP1.");
+    println!(
+        "filter table; its size is the frame's on TP1. Trace and why are of a site with all 255"
+    );
+    println!("couplers and 32 filter tables; the reference floods it from line to line.");
     match klumdray::LINKED {
         "staticlib" => {}
         "native" => {
-            println!("This machine is not x86-64: the library's own LLVM module was compiled for it.");
+            println!(
+                "This machine is not x86-64: the library's own LLVM module was compiled for it."
+            );
         }
-        _ => println!("NOT A MEASUREMENT: the library's code is for x86-64 and runs emulated here."),
+        _ => {
+            println!("NOT A MEASUREMENT: the library's code is for x86-64 and runs emulated here.")
+        }
     }
     println!();
     measure::print_heading();
@@ -34,4 +42,5 @@ fn main() {
     cemi::rows();
     routing::rows();
     coupler::rows();
+    tracer::rows();
 }

@@ -1,6 +1,8 @@
 //! Takes the library's answers apart, by the bits that `include/klumdray.h` names.
 
 use crate::cemi::Code;
+use crate::coupler::Side;
+use crate::tracer::{Reason, Why};
 use crate::{Meaning, Refusal};
 
 /// A reader's answer that is not a refusal.
@@ -92,4 +94,54 @@ impl Step {
     pub(crate) fn forwarded(self) -> usize {
         (self.0 >> 32) as usize
     }
+}
+
+/// A trace's answer that is not a refusal.
+#[derive(Clone, Copy)]
+pub(crate) struct Trace(u64);
+
+impl Trace {
+    #[inline]
+    pub(crate) fn accepted(answer: u64) -> Result<Trace, Refusal> {
+        match answer as u8 {
+            0 => Ok(Trace(answer)),
+            number => Err(Refusal::from_number(number)),
+        }
+    }
+
+    #[inline]
+    pub(crate) fn listed(self) -> usize {
+        usize::from((self.0 >> 8) as u16)
+    }
+
+    #[inline]
+    pub(crate) fn forwardings(self) -> usize {
+        usize::from((self.0 >> 24) as u16)
+    }
+}
+
+/// What a why's answer says, or the refusal.
+#[inline]
+pub(crate) fn why(answer: u32) -> Result<Why, Refusal> {
+    let reason = match (answer as u8, (answer >> 8) as u8) {
+        (0, 0) => return Ok(Why::Reached),
+        (0, 1) => Reason::NotFitted,
+        (0, 2) => Reason::OwnAddress,
+        (0, 3) => Reason::Closed,
+        (0, 4) => Reason::NotBelow,
+        (0, 5) => Reason::NotAbove,
+        (0, 6) => Reason::NotInTable,
+        (0, 7) => Reason::CountUsedUp,
+        (0, _) => unreachable!("a reason is 0 to 7"),
+        (number, _) => return Err(Refusal::from_number(number)),
+    };
+    let from = match answer >> 24 & 1 {
+        0 => Side::Main,
+        _ => Side::Sub,
+    };
+    Ok(Why::Stopped {
+        line: (answer >> 16) as u8,
+        from,
+        reason,
+    })
 }

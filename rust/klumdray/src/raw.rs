@@ -37,6 +37,30 @@ pub struct Setting<'a> {
     pub medium: u8,
 }
 
+/// The numbers of a query; one outside its range is refused.
+#[derive(Clone, Copy, Debug, PartialEq, Eq)]
+pub struct Query {
+    /// The starting line.
+    pub start: u8,
+    /// 0 individual, 1 group.
+    pub kind: u8,
+    /// The destination address.
+    pub destination: u16,
+    /// The hop count on the starting line, 0 to 7.
+    pub count: u8,
+}
+
+/// The octets of a site, well-formed or not.
+#[derive(Clone, Copy, Debug, PartialEq, Eq)]
+pub struct Site<'a> {
+    /// A record of 12 octets for each coupler.
+    pub records: &'a [u8],
+    /// The project store: filter tables 0 to 127.
+    pub project: &'a [u8],
+    /// The site's own store: filter tables 128 to 254.
+    pub own: &'a [u8],
+}
+
 extern "C" {
     fn klumdray_check_octet(octets: *const u8, n: usize) -> u8;
     fn klumdray_tp1_read(octets: *const u8, n: usize) -> u64;
@@ -100,6 +124,33 @@ extern "C" {
         room: *mut u8,
         room_length: usize,
     ) -> u64;
+    fn klumdray_trace(
+        start: u8,
+        kind: u8,
+        destination: u16,
+        count: u8,
+        site: *const u8,
+        site_length: usize,
+        project: *const u8,
+        project_length: usize,
+        own: *const u8,
+        own_length: usize,
+        room: *mut u8,
+        room_length: usize,
+    ) -> u64;
+    fn klumdray_why(
+        start: u8,
+        kind: u8,
+        destination: u16,
+        count: u8,
+        site: *const u8,
+        site_length: usize,
+        project: *const u8,
+        project_length: usize,
+        own: *const u8,
+        own_length: usize,
+        line: u8,
+    ) -> u32;
 }
 
 /// The check octet of the octets given.
@@ -293,6 +344,75 @@ pub fn step(setting: &Setting<'_>, memory: &mut [u8], octets: &[u8], room: &mut 
             octets.len(),
             room.as_mut_ptr(),
             room.len(),
+        )
+    }
+}
+
+/// A trace's answer: bits 0 to 7 the number, bits 8 to 23 how many lines are listed, bits 24 to 39
+/// the forwardings made. The list is at the front of the room, three octets a line.
+///
+/// ```
+/// let query = klumdray::raw::Query { start: 0x40, kind: 1, destination: 0x1234, count: 2 };
+/// let records = [0x43, 0x50, 0x40, 2, 2, 2, 2, 2, 2, 2, 2, 0xff];
+/// let site = klumdray::raw::Site { records: &records, project: &[], own: &[] };
+/// let mut room = [0x55; 768];
+/// assert_eq!(klumdray::raw::trace(&query, &site, &mut room), 1 << 24 | 2 << 8);
+/// assert_eq!(room[..7], [0x00, 1, 1, 0x40, 2, 0, 0x55]);
+///
+/// assert_eq!(klumdray::raw::trace(&query, &site, &mut room[1..]), 13);
+/// ```
+#[inline]
+pub fn trace(query: &Query, site: &Site<'_>, room: &mut [u8]) -> u64 {
+    // SAFETY: the library reads records and stores and writes the room within the lengths lent,
+    // which Rust's borrows keep apart, and keeps none of them.
+    unsafe {
+        klumdray_trace(
+            query.start,
+            query.kind,
+            query.destination,
+            query.count,
+            site.records.as_ptr(),
+            site.records.len(),
+            site.project.as_ptr(),
+            site.project.len(),
+            site.own.as_ptr(),
+            site.own.len(),
+            room.as_mut_ptr(),
+            room.len(),
+        )
+    }
+}
+
+/// A why's answer: bits 0 to 7 the number, bits 8 to 15 the reason or 0 if the line is reached,
+/// bits 16 to 23 the line of the coupler that stops the telegram, bit 24 the direction, 0 main to
+/// sub, 1 sub to main.
+///
+/// ```
+/// let query = klumdray::raw::Query { start: 0x40, kind: 1, destination: 0x1234, count: 2 };
+/// let records = [0x43, 0x50, 0x40, 2, 2, 2, 2, 2, 2, 2, 2, 0xff];
+/// let site = klumdray::raw::Site { records: &records, project: &[], own: &[] };
+/// assert_eq!(klumdray::raw::why(&query, &site, 0x00), 0);
+/// assert_eq!(klumdray::raw::why(&query, &site, 0x10), 0x10 << 16 | 1 << 8);
+///
+/// let query = klumdray::raw::Query { kind: 2, ..query };
+/// assert_eq!(klumdray::raw::why(&query, &site, 0x00), 14);
+/// ```
+#[inline]
+pub fn why(query: &Query, site: &Site<'_>, line: u8) -> u32 {
+    // SAFETY: the library reads records and stores within the lengths lent and keeps none of them.
+    unsafe {
+        klumdray_why(
+            query.start,
+            query.kind,
+            query.destination,
+            query.count,
+            site.records.as_ptr(),
+            site.records.len(),
+            site.project.as_ptr(),
+            site.project.len(),
+            site.own.as_ptr(),
+            site.own.len(),
+            line,
         )
     }
 }

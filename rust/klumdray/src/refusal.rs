@@ -43,6 +43,10 @@ impl Refusal {
     pub const RANGE: Refusal = Refusal(14);
     /// Own line 00h, or a setting code not allowed.
     pub const SETTING: Refusal = Refusal(15);
+    /// Site length not a multiple of 12, or a wrong mark.
+    pub const SITE: Refusal = Refusal(16);
+    /// One line twice in a site.
+    pub const LINE_TWICE: Refusal = Refusal(17);
     /// Filter table missing or of wrong size.
     pub const TABLE: Refusal = Refusal(18);
 
@@ -75,6 +79,8 @@ impl Refusal {
             Refusal::ROOM => "lent room too small",
             Refusal::RANGE => "a number given by the caller is outside its range",
             Refusal::SETTING => "own line 00h, or a setting code not allowed",
+            Refusal::SITE => "site length not a multiple of 12, or a wrong mark",
+            Refusal::LINE_TWICE => "one line twice in a site",
             Refusal::TABLE => "filter table missing or of wrong size",
             _ => "not a number of these calls",
         }

@@ -70,20 +70,24 @@ impl Coupler<'_> {
     }
 
     /// "A frame with AT 0 to the coupler's own address", which is its line followed by 00h.
-    fn is_own(&self, group: bool, destination: u16) -> bool {
+    pub fn is_own(&self, group: bool, destination: u16) -> bool {
         !group && destination.to_be_bytes() == [self.line, 0]
     }
 
-    /// Whether address and codes let a frame from this side pass.
-    pub fn may_pass(&self, from: Side, group: bool, destination: u16) -> bool {
+    /// The code that decides about a frame from this side.
+    pub fn code(&self, from: Side, group: bool, destination: u16) -> u8 {
         let row = &self.codes[from as usize];
-        let code = match (group, destination) {
+        match (group, destination) {
             (false, _) => row[0],
             (true, 0x0000) => row[1],
             (true, 0x0001..=0x6fff) => row[2],
             (true, 0x7000..) => row[3],
-        };
-        let open = match code {
+        }
+    }
+
+    /// Whether address and codes let a frame from this side pass.
+    pub fn may_pass(&self, from: Side, group: bool, destination: u16) -> bool {
+        let open = match self.code(from, group, destination) {
             0 => false,
             1 if group => self.is_in_table(destination),
             1 => self.leads_to(from, destination),
@@ -93,14 +97,14 @@ impl Coupler<'_> {
     }
 
     /// "bit g mod 8 of octet g div 8 in the 8,192-octet filter table is one"
-    fn is_in_table(&self, group: u16) -> bool {
+    pub fn is_in_table(&self, group: u16) -> bool {
         let octet = self.table.get(usize::from(group / 8));
         octet.is_some_and(|octet| octet >> (group % 8) & 1 == 1)
     }
 
     /// "where n mod 16 is not 0, down if the destination's high octet is n, up if it isn't;
     /// otherwise down if the destination's area is the coupler's area, up if it isn't"
-    fn leads_to(&self, from: Side, destination: u16) -> bool {
+    pub fn leads_to(&self, from: Side, destination: u16) -> bool {
         let [high, _] = destination.to_be_bytes();
         let below = match self.line % 16 {
             0 => high / 16 == self.line / 16,
@@ -126,7 +130,7 @@ impl Coupler<'_> {
 
 /// "individual 0, 1, 2; broadcast 0, 2; groups 0001h to 6FFFh 0, 1, 2; groups 7000h to FFFFh
 /// 0, 1, 2"
-fn is_row(&[individual, broadcast, lower, upper]: &[u8; 4]) -> bool {
+pub(crate) fn is_row(&[individual, broadcast, lower, upper]: &[u8; 4]) -> bool {
     individual <= 2 && matches!(broadcast, 0 | 2) && lower <= 2 && upper <= 2
 }
 

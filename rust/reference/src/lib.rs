@@ -1,4 +1,5 @@
-//! An independent reading of document 01, "Frame layouts", "Refusal numbers" and "The coupler".
+//! An independent reading of document 01, "Frame layouts", "Refusal numbers", "The coupler" and
+//! "Sites and the tracer".
 //!
 //! It is written from that paper alone and shares nothing with the proved code: the proved
 //! library is compared with it, input by input. A refusal is its number in the paper's table.
@@ -8,7 +9,9 @@ pub mod cemi;
 pub mod coupler;
 pub mod refusal;
 pub mod routing;
+pub mod site;
 pub mod tp1;
+pub mod tracer;
 
 #[derive(Clone, Copy, Debug, PartialEq, Eq)]
 pub enum Format {

@@ -1,4 +1,4 @@
-//! The table "Refusal numbers" of document 01, as far as frames and couplers are concerned.
+//! The table "Refusal numbers" of document 01.
 
 /// Fewer octets than the frame needs.
 pub const TOO_FEW: u8 = 1;
@@ -30,5 +30,9 @@ pub const ROOM: u8 = 13;
 pub const RANGE: u8 = 14;
 /// Own line 00h, or a setting code not allowed.
 pub const SETTING: u8 = 15;
+/// Site length not a multiple of 12, or a wrong mark.
+pub const SITE: u8 = 16;
+/// One line twice in a site.
+pub const LINE_TWICE: u8 = 17;
 /// Filter table missing or of wrong size.
 pub const TABLE: u8 = 18;
