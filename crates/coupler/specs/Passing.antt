@@ -31,12 +31,15 @@ unfoldable pub isRuled : ℕ → List ℕ → ℕ → Bool → ℕ → Bool
 isRuled line table direction group destination =
     cond group (not (eqb destination 0) && isListed table destination) (cond (eqb direction 0) (isBelow line destination) (not (isBelow line destination)))
 
--- "Code 0 is closed, 2 open." "A frame .. to the coupler's own address is .. never forwarded, under any code."
+-- what one code says of an address: "Code 0 is closed, 2 open."
+abbrev pub codePasses : ℕ → ℕ → List ℕ → ℕ → Bool → ℕ → Bool
+codePasses line code table direction group destination =
+    not (isOwn line group destination) && (eqb code 2 || (eqb code 1 && isRuled line table direction group destination))
+
+-- the code of the direction and of the address's class decides; "A frame .. to the coupler's own address is .. never forwarded, under any code."
 unfoldable pub mayPass : ℕ → List (List ℕ) → List ℕ → ℕ → Bool → ℕ → Bool
 mayPass line codes table direction group destination =
-    not (isOwn line group destination)
-    && (eqb (codeIn codes direction (classOf group destination)) 2
-    || (eqb (codeIn codes direction (classOf group destination)) 1 && isRuled line table direction group destination))
+    codePasses line (codeIn codes direction (classOf group destination)) table direction group destination
 
 -- the hop rule: 0 stops, 1 to 6 drop by one, 7 stays
 abbrev pub hopped : ℕ → ℕ

@@ -5,8 +5,10 @@ mod remembering;
 pub mod settings;
 
 ghost use mathlib.Core.Path.{_≡_};
+ghost use Prim.Native.Nat.{_<_};
 ghost use lib.ListN.{length};
-ghost use Rattle.coupler.specs.Passing.{mayPass, passageOf, hopped};
+ghost use Rattle.coupler.specs.Settings.{classOf};
+ghost use Rattle.coupler.specs.Passing.{mayPass, codePasses, passageOf, hopped};
 ghost use Rattle.coupler.specs.Memory.{noMemory};
 ghost use Rattle.coupler.specs.Step.{settingOf, heard, HandedOn, Did};
 use frame::Refusal;
@@ -72,9 +74,31 @@ pub fn may_pass(
 {
     let class = passing::class_of(group, destination);
     let code = settings::code_in(codes, direction, class);
+    code_passes(line, code, table, direction, group, destination)
+}
+
+// Whether a coupler with this code, of the direction and of the address's class, lets a telegram to
+// this address pass.
+pub fn code_passes(
+    line: u8,
+    code: u8,
+    table: &[u8],
+    direction: u8,
+    group: bool,
+    destination: u16,
+) -> bool
+    ensures { λ r. ⌜ r ≡ codePasses line code (now (table .entry)) direction group destination ⌝ }
+{
     let own = passing::is_own(line, group, destination);
     let ruled = passing::is_ruled(line, table, direction, group, destination);
     !own & ((code == 2) | ((code == 1) & ruled))
+}
+
+// The class of an address: individual 0, broadcast 1, groups 0001h to 6FFFh 2, groups 7000h to FFFFh 3.
+pub fn class_of(group: bool, destination: u16) -> usize
+    ensures { λ r. ⌜ (r ≡ classOf group destination) × (r < 4) ⌝ }
+{
+    passing::class_of(group, destination)
 }
 
 // What a coupler makes of a telegram to this address that comes to it with this count.

@@ -5,6 +5,8 @@ pub mod stores;
 
 ghost use mathlib.Core.Path.{_≡_};
 ghost use mathlib.Core.List.{[]};
+ghost use Prim.Native.Nat.{_<_};
+ghost use Rattle.coupler.specs.Settings.{classOf};
 ghost use Rattle.frame.specs.Order.{firstOf};
 ghost use Rattle.coupler.specs.Step.{judgedBy};
 ghost use Rattle.site.specs.Stores.{stores};
@@ -85,20 +87,23 @@ pub fn judge<'a>(site: &[u8], project: &'a [u8], own: &'a [u8]) -> Judged
     }
 }
 
+// Asked with the one code that its direction and the address's class have in the record.
 fn lets_pass<'a>(
     octets: &[u8],
     project: &'a [u8],
     own: &'a [u8],
     direction: u8,
+    class: usize,
     group: bool,
     destination: u16,
 ) -> bool
+    requires { ⌜ (class ≡ classOf group destination) × (class < 4) ⌝ }
     ensures { λ r. ⌜ r ≡ passes (stores (now (project .entry)) (now (own .entry))) group destination direction (now (octets .entry)) ⌝ }
 {
     let line = records::line_of(octets);
-    let codes = records::codes_of(octets);
+    let code = records::code_at(octets, direction, class);
     let table = stores::table_of(records::table_number(octets), project, own);
-    coupler::may_pass(line, codes, table, direction, group, destination)
+    coupler::code_passes(line, code, table, direction, group, destination)
 }
 
 // For every line whether its coupler is fitted and lets the telegram pass in this direction (0 main
@@ -113,12 +118,13 @@ pub fn letting<'a>(
 ) -> [bool; 256]
     ensures { λ r. ⌜ Marks (lets (stores (now (project .entry)) (now (own .entry))) group destination (recordsOf (now (site .entry))) direction) r ⌝ }
 {
+    let class = coupler::class_of(group, destination);
     let mut marks = [false; 256];
     let mut from = 0;
     while site.len() - from >= 12 {
         let octets = records::record_at(site, from);
         let line = records::line_of(octets) as usize;
-        marks[line] = lets_pass(octets, project, own, direction, group, destination);
+        marks[line] = lets_pass(octets, project, own, direction, class, group, destination);
         from += 12;
     }
     marks

@@ -1,5 +1,7 @@
 // The records of a site, and what each says.
 ghost use mathlib.Core.Path.{_≡_};
+ghost use Prim.Native.Nat.{_<_};
+ghost use Rattle.coupler.specs.Settings.{codeIn};
 ghost use Rattle.site.specs.Records.{recordAt, recordsOf, isMarked, lineOf, codesOf, tableNumber, couplerOf};
 
 // The record that starts at an index; empty where the site does not have it whole.
@@ -47,6 +49,19 @@ pub(crate) fn codes_of(octets: &[u8]) -> [[u8; 4]; 2]
         octets::octet(octets, 10),
     ];
     [down, up]
+}
+
+// One of them alone: that of a direction and a class of addresses, 0 outside the directions.
+pub(crate) fn code_at(octets: &[u8], direction: u8, class: usize) -> u8
+    requires { ⌜ class < 4 ⌝ }
+    ensures { λ r. ⌜ r ≡ codeIn (codesOf (now (octets .entry))) direction class ⌝ }
+{
+    if direction < 2 {
+        let at = 3 + direction as usize * 4 + class;
+        octets::octet(octets, at)
+    } else {
+        0
+    }
 }
 
 pub(crate) fn table_number(octets: &[u8]) -> u8

@@ -1,4 +1,4 @@
--- The definition's four parts, as the calls ensure them.
+-- One code, chosen by the direction and the address's class, decides.
 use borrow.Author.Needs.{needs}
 use Rattle.coupler.specs.Passing.{mayPass}
 use Rattle.coupler.proofs.may_pass.Statement.{statement}
@@ -7,14 +7,8 @@ use Rattle.coupler.proofs.may_pass.Tie as tie
 returns : tie.Need-returns
 unfolding mayPass
 returns c =
-    rw (c .before .is-own .ensures, c .before .before .code-in .ensures, c .before .before .before .class-of .ensures .0, c .is-ruled .ensures)
+    rw (← c .before .before .class-of .ensures .0, ← c .before .code-in .ensures) (c .code-passes .ensures)
 
 pub may-pass-spec : {M : Type 1} → statement M
 may-pass-spec =
-    tie.close
-    (tie.spec
-    (λ c κs. search needs)
-    (λ c κs. search needs)
-    (λ c κs. search needs)
-    (λ c κs. search needs)
-    returns)
+    tie.close (tie.spec (λ c κs. search needs) (λ c κs. search needs) (λ c κs. search needs) returns)

@@ -12,11 +12,11 @@ use Rattle.site.proofs.letting.Statement.{statement}
 use Rattle.site.proofs.letting.Tie as tie
 
 abbrev Inv-loop : tie.InvT-loop
-Inv-loop site project own direction group destination marks₀ from₀ marks from =
+Inv-loop site project own direction group destination class marks₀ from₀ marks from =
     Letting (letsBy (stores project own) group destination direction) site marks from
 
 abbrev μ-loop : tie.MeasureT-loop
-μ-loop site project own direction group destination marks₀ from₀ marks from =
+μ-loop site project own direction group destination class marks₀ from₀ marks from =
     length site - from
 
 loop-holds : tie.Need-loop-holds Inv-loop μ-loop
@@ -37,6 +37,7 @@ letting-spec =
     (tie.spec
     Inv-loop
     μ-loop
+    (λ c κs. search needs)
     loop-holds
     (λ c. search needs)
     (λ c κs. search needs)

@@ -1,0 +1,141 @@
+//! The rows of tests/telegrams; the README.md there says what each field is.
+
+use std::fs;
+use std::path::Path;
+
+/// The source documents, a file of rows for each.
+pub const SOURCES: [&str; 4] = ["000", "001", "002", "003"];
+
+const TABLE_SIZE: usize = 8192;
+
+/// The setting of a step; the side and the main medium as their numbers.
+pub struct Setting {
+    pub line: u8,
+    pub codes: [[u8; 4]; 2],
+    pub side: u8,
+    pub medium: u8,
+    pub table: Vec<u8>,
+}
+
+/// What a row asks.
+pub enum Question {
+    Tp1(Vec<u8>),
+    Cemi(Vec<u8>),
+    Routing(Vec<u8>),
+    /// Frames received one after the other; the row says what becomes of the last.
+    Step(Setting, Vec<Vec<u8>>),
+}
+
+pub struct Row {
+    pub name: String,
+    pub question: Question,
+    /// What document 01 says of it.
+    pub text: String,
+    pub remark: String,
+}
+
+impl Row {
+    pub fn is_misprint(&self) -> bool {
+        self.remark.starts_with("misprint: ")
+    }
+
+    pub fn is_other_format(&self) -> bool {
+        self.remark.starts_with("other format: ")
+    }
+
+    /// The number by which it is refused, 0 if it is not.
+    pub fn number(&self) -> usize {
+        match self.text.strip_prefix("refused ") {
+            Some(number) => number.parse().expect("a number behind refused"),
+            None => 0,
+        }
+    }
+
+    fn parse(source: &str, line: &str) -> Row {
+        let fields: Vec<&str> = line.split('\t').collect();
+        let &[name, place, format, octets, text, remark] = &fields[..] else {
+            panic!("not six fields: {line}");
+        };
+        assert!(name.starts_with(&format!("{source}-")), "{line}");
+        let at = place.strip_prefix(&format!("{source}:"));
+        let number = at.and_then(|at| at.parse::<usize>().ok());
+        assert!(number.is_some_and(|number| number > 0), "{line}");
+        assert!(!text.is_empty() && !remark.is_empty(), "{line}");
+        Row {
+            name: name.to_string(),
+            question: question(format, octets),
+            text: text.to_string(),
+            remark: remark.to_string(),
+        }
+    }
+}
+
+fn question(format: &str, octets: &str) -> Question {
+    match format {
+        "tp1" => Question::Tp1(pairs(octets)),
+        "cemi" => Question::Cemi(pairs(octets)),
+        "routing" => Question::Routing(pairs(octets)),
+        "step" => {
+            let mut parts = octets.split(" > ").map(pairs);
+            let setting = setting(&parts.next().expect("a setting"));
+            let frames: Vec<Vec<u8>> = parts.collect();
+            assert!(!frames.is_empty(), "no frame: {octets}");
+            Question::Step(setting, frames)
+        }
+        _ => panic!("no such format: {format}"),
+    }
+}
+
+fn setting(octets: &[u8]) -> Setting {
+    let &[line, d0, d1, d2, d3, u0, u1, u2, u3, side, medium, ref groups @ ..] = octets else {
+        panic!("too short a setting: {octets:02X?}");
+    };
+    assert!(side <= 1 && medium <= 1 && groups.len().is_multiple_of(2));
+    Setting {
+        line,
+        codes: [[d0, d1, d2, d3], [u0, u1, u2, u3]],
+        side,
+        medium,
+        table: table(groups),
+    }
+}
+
+/// 8,192 octets with a bit for each group named, or none where no group is.
+fn table(groups: &[u8]) -> Vec<u8> {
+    let mut table = match groups {
+        [] => vec![],
+        _ => vec![0; TABLE_SIZE],
+    };
+    for group in groups.chunks_exact(2) {
+        let group = u16::from_be_bytes([group[0], group[1]]);
+        table[usize::from(group / 8)] |= 1 << (group % 8);
+    }
+    table
+}
+
+/// Pairs of hex digits in upper case, separated by single spaces.
+fn pairs(text: &str) -> Vec<u8> {
+    let octet = |pair: &str| u8::from_str_radix(pair, 16).expect("a pair of hex digits");
+    let octets: Vec<u8> = text.split(' ').map(octet).collect();
+    assert_eq!(spaced(&octets), text);
+    octets
+}
+
+pub fn spaced(octets: &[u8]) -> String {
+    let pairs: Vec<String> = octets.iter().map(|octet| format!("{octet:02X}")).collect();
+    pairs.join(" ")
+}
+
+/// A file of the repository.
+pub fn file(path: &str) -> String {
+    let path = Path::new(env!("CARGO_MANIFEST_DIR"))
+        .join("../..")
+        .join(path);
+    fs::read_to_string(&path).unwrap_or_else(|error| panic!("{}: {error}", path.display()))
+}
+
+pub fn rows(source: &str) -> Vec<Row> {
+    let text = file(&format!("tests/telegrams/{source}.txt"));
+    assert!(text.ends_with('\n'));
+    text.lines().map(|line| Row::parse(source, line)).collect()
+}

@@ -1,0 +1,284 @@
+//! The sources' examples in tests/telegrams: what the reference and the bindings say of each row,
+//! beside what the row says that document 01 does.
+
+#[path = "support/rows.rs"]
+mod rows;
+
+use klumdray::coupler::{Medium, Memory, Settings, Side};
+use klumdray::Meaning;
+use rows::{spaced, Question, Row, Setting, SOURCES};
+use std::collections::BTreeSet;
+
+/// The lent room of a step.
+const ROOM: usize = 272;
+
+type Answer = fn(&Question) -> String;
+
+fn words(meaning: &Meaning, payload: &[u8]) -> String {
+    let word = |flag, yes, no| if flag { yes } else { no };
+    format!(
+        "{} {} priority {} source {:04X} {} {:04X} count {} payload {}",
+        word(meaning.extended, "extended", "standard"),
+        word(meaning.first_sending, "first", "repeated"),
+        meaning.priority,
+        meaning.source,
+        word(meaning.group, "group", "individual"),
+        meaning.destination,
+        meaning.count,
+        spaced(payload)
+    )
+}
+
+fn sent(acknowledged: bool, own: bool, forwarded: &[u8]) -> String {
+    let acknowledged = if acknowledged {
+        "acknowledged"
+    } else {
+        "silent"
+    };
+    let own = if own { "own" } else { "not-own" };
+    match forwarded {
+        [] => format!("{acknowledged} {own} sends nothing"),
+        _ => format!("{acknowledged} {own} sends {}", spaced(forwarded)),
+    }
+}
+
+mod by_reference {
+    use super::*;
+    use reference::cemi::Code;
+    use reference::coupler::{self, Coupler};
+    use reference::{cemi, routing, tp1, Format};
+
+    fn meaning(meaning: &reference::Meaning) -> Meaning {
+        Meaning {
+            extended: meaning.format == Format::Extended,
+            first_sending: meaning.first_sending,
+            priority: meaning.priority,
+            source: meaning.source,
+            group: meaning.group,
+            destination: meaning.destination,
+            count: meaning.count,
+        }
+    }
+
+    fn message(frame: cemi::Frame<'_>) -> String {
+        let kind = match frame.code {
+            Code::Request => "request".to_string(),
+            Code::Confirmation => format!("confirmation error {}", u8::from(frame.error_mark)),
+            Code::Indication => "indication".to_string(),
+        };
+        format!("{kind} {}", words(&meaning(&frame.meaning), frame.payload))
+    }
+
+    fn step(setting: &Setting, frames: &[Vec<u8>]) -> Result<String, u8> {
+        let coupler = Coupler {
+            line: setting.line,
+            codes: setting.codes,
+            table: &setting.table,
+        };
+        let (side, medium) = (setting.side, setting.medium);
+        let (mut memory, mut room) = (coupler::Memory::default(), [0; ROOM]);
+        let mut last = Err(0);
+        for octets in frames {
+            let outcome = coupler::step(&coupler, side, medium, &mut memory, octets, &mut room);
+            last = outcome.map(|outcome| {
+                let forwarded = &room[..outcome.forwarded];
+                sent(outcome.acknowledged, outcome.own, forwarded)
+            });
+        }
+        last
+    }
+
+    pub fn answer(question: &Question) -> String {
+        let answer = match question {
+            Question::Tp1(octets) => {
+                tp1::read(octets).map(|frame| words(&meaning(&frame.meaning), frame.payload))
+            }
+            Question::Cemi(octets) => cemi::read(octets).map(message),
+            Question::Routing(octets) => routing::read(octets).map(message),
+            Question::Step(setting, frames) => step(setting, frames),
+        };
+        answer.unwrap_or_else(|number| format!("refused {number}"))
+    }
+}
+
+mod by_bindings {
+    use super::*;
+    use klumdray::cemi::Code;
+    use klumdray::{cemi, coupler, routing, tp1, Refusal};
+
+    fn message(frame: cemi::Frame<'_>) -> String {
+        let kind = match frame.code {
+            Code::Request => "request".to_string(),
+            Code::Confirmation => format!("confirmation error {}", u8::from(frame.error_mark)),
+            Code::Indication => "indication".to_string(),
+        };
+        format!("{kind} {}", words(&frame.meaning, frame.payload()))
+    }
+
+    fn step(setting: &Setting, frames: &[Vec<u8>]) -> Result<String, Refusal> {
+        let settings = Settings {
+            line: setting.line,
+            codes: setting.codes,
+            table: &setting.table,
+        };
+        let side = [Side::Main, Side::Sub][usize::from(setting.side)];
+        let medium = [Medium::Tp1, Medium::Ip][usize::from(setting.medium)];
+        let (mut memory, mut room) = (Memory::new(), [0; ROOM]);
+        let (last, before) = frames.split_last().expect("a frame");
+        for octets in before {
+            let _ = coupler::step(&settings, side, medium, &mut memory, octets, &mut room);
+        }
+        let outcome = coupler::step(&settings, side, medium, &mut memory, last, &mut room)?;
+        Ok(sent(outcome.acknowledged, outcome.own, outcome.forwarded))
+    }
+
+    pub fn answer(question: &Question) -> String {
+        let answer = match question {
+            Question::Tp1(octets) => {
+                tp1::read(octets).map(|frame| words(&frame.meaning, frame.payload()))
+            }
+            Question::Cemi(octets) => cemi::read(octets).map(message),
+            Question::Routing(octets) => routing::read(octets).map(message),
+            Question::Step(setting, frames) => step(setting, frames),
+        };
+        answer.unwrap_or_else(|refusal| format!("refused {}", refusal.number()))
+    }
+}
+
+fn all_rows() -> impl Iterator<Item = Row> {
+    SOURCES.into_iter().flat_map(rows::rows)
+}
+
+/// The first row that is answered otherwise than it says.
+fn first_difference(answer: Answer) -> Option<String> {
+    all_rows().find_map(|row| {
+        let given = answer(&row.question);
+        (given != row.text).then(|| format!("{}: {given}, not {}", row.name, row.text))
+    })
+}
+
+#[test]
+fn names_are_unique() {
+    let mut names = BTreeSet::new();
+    for row in all_rows() {
+        assert!(names.insert(row.name.clone()), "{} twice", row.name);
+    }
+}
+
+#[test]
+fn reference_says_what_the_rows_say() {
+    assert_eq!(first_difference(by_reference::answer), None);
+}
+
+#[test]
+fn bindings_say_what_the_rows_say() {
+    assert_eq!(first_difference(by_bindings::answer), None);
+}
+
+/// The numbers of one source, as a row of the table in docs/TELEGRAMS.md.
+fn numbers(source: &str) -> String {
+    let rows = rows::rows(source);
+    let count = |test: &dyn Fn(&Row) -> bool| rows.iter().filter(|row| test(row)).count();
+    let refused: Vec<String> = (1..=18)
+        .map(|number| (number, count(&|row| row.number() == number)))
+        .filter(|&(_, count)| count > 0)
+        .map(|(number, count)| format!("{count} by {number}"))
+        .collect();
+    let refused = match &refused[..] {
+        [] => "none".to_string(),
+        _ => refused.join(", "),
+    };
+    format!(
+        "| {source} | {} | {} | {} | {} | {} | {} | {refused} | {} | {} |",
+        rows.len(),
+        count(&|row| matches!(row.question, Question::Tp1(_))),
+        count(&|row| matches!(row.question, Question::Cemi(_))),
+        count(&|row| matches!(row.question, Question::Routing(_))),
+        count(&|row| matches!(row.question, Question::Step(..))),
+        count(&|row| row.number() == 0),
+        count(&Row::is_misprint),
+        count(&Row::is_other_format),
+    )
+}
+
+#[test]
+fn document_has_the_numbers() {
+    let document = rows::file("docs/TELEGRAMS.md");
+    let lines = SOURCES.map(numbers);
+    println!("{}", lines.join("\n"));
+    for line in lines {
+        assert!(document.lines().any(|other| other == line), "{line}");
+    }
+}
+
+/// A refusal is never unexplained: document 01's layouts are broken by misprints, by other
+/// formats, and by messages that a source cuts on purpose.
+#[test]
+fn refused_rows_say_why() {
+    for row in all_rows().filter(|row| row.number() != 0) {
+        let cut = row.remark.starts_with("the first USB report alone");
+        let why = row.is_misprint() || row.is_other_format() || cut;
+        assert!(why, "{}: {}", row.name, row.remark);
+    }
+}
+
+/// The idle programs that document 01 names, as far as they answer rows.
+mod idle {
+    use super::*;
+
+    fn refuses_all(_: &Question) -> String {
+        "refused 1".to_string()
+    }
+
+    fn one_fixed_frame(question: &Question) -> String {
+        let p1 = [0x00, 0x80, 0x56, 0x78, 0x9a];
+        let meaning = Meaning {
+            extended: false,
+            first_sending: true,
+            priority: 3,
+            source: 0,
+            group: true,
+            destination: 0x1234,
+            count: 3,
+        };
+        match question {
+            Question::Step(..) => by_reference::answer(question),
+            _ => words(&meaning, &p1),
+        }
+    }
+
+    fn forwards(question: &Question, what: fn(&[u8]) -> String) -> String {
+        let answer = by_reference::answer(question);
+        match (question, answer.split_once(" sends ")) {
+            (Question::Step(_, frames), Some((before, octets))) if octets != "nothing" => {
+                format!("{before} sends {}", what(frames.last().expect("a frame")))
+            }
+            _ => answer,
+        }
+    }
+
+    fn forwards_nothing(question: &Question) -> String {
+        forwards(question, |_| "nothing".to_string())
+    }
+
+    fn copies_octets(question: &Question) -> String {
+        forwards(question, spaced)
+    }
+
+    const PROGRAMS: [(&str, Answer); 4] = [
+        ("refuses all", refuses_all),
+        ("one fixed frame", one_fixed_frame),
+        ("forwards nothing", forwards_nothing),
+        ("copies octets unchanged", copies_octets),
+    ];
+
+    #[test]
+    fn idle_programs_are_noticed() {
+        for (name, answer) in PROGRAMS {
+            let Some(difference) = first_difference(answer) else {
+                panic!("not noticed: {name}");
+            };
+            println!("{name}: {difference:.160}");
+        }
+    }
+}
