@@ -96,6 +96,10 @@ use Rattle.klumdray.proofs.klumdray_routing_write.Kinds as klumdray-routing-wri
 use Rattle.klumdray.proofs.klumdray_routing_write.Reads as klumdray-routing-write-reads
 use Rattle.klumdray.proofs.klumdray_step.Kinds as klumdray-step-kinds
 use Rattle.klumdray.proofs.klumdray_step.Reads as klumdray-step-reads
+use Rattle.coupler.proofs.code_passes.Kinds as coupler-code-passes-kinds
+use Rattle.coupler.proofs.code_passes.Reads as coupler-code-passes-reads
+use Rattle.coupler.proofs.class_of.Kinds as coupler-class-of-kinds
+use Rattle.coupler.proofs.class_of.Reads as coupler-class-of-reads
 use Rattle.coupler.proofs.why_not.Kinds as coupler-why-not-kinds
 use Rattle.coupler.proofs.why_not.Reads as coupler-why-not-reads
 use Rattle.site.proofs.stores.table_of.Kinds as site-table-of-kinds
@@ -224,6 +228,12 @@ coupler-table-fits-stated = record { determines = λ κs args r₁ r₂ w₁ w�
 
 pub coupler-may-pass-stated : Stated coupler-may-pass-kinds.ps coupler-may-pass-kinds.r coupler-may-pass-reads.Pre coupler-may-pass-reads.Post (λ κs a. coupler-may-pass-reads.ensures κs a tt)
 coupler-may-pass-stated = record { determines = λ κs args r₁ r₂ w₁ w₂ x y. (x ∙ sym y, refl); free = λ κs args. tt; whole = λ κs args r e w. refl }
+
+pub coupler-code-passes-stated : Stated coupler-code-passes-kinds.ps coupler-code-passes-kinds.r coupler-code-passes-reads.Pre coupler-code-passes-reads.Post (λ κs a. coupler-code-passes-reads.ensures κs a tt)
+coupler-code-passes-stated = record { determines = λ κs args r₁ r₂ w₁ w₂ x y. (x ∙ sym y, refl); free = λ κs args. tt; whole = λ κs args r e w. refl }
+
+pub coupler-class-of-stated : Stated coupler-class-of-kinds.ps coupler-class-of-kinds.r coupler-class-of-reads.Pre coupler-class-of-reads.Post (λ κs a. coupler-class-of-reads.ensures κs a tt)
+coupler-class-of-stated = record { determines = λ κs args r₁ r₂ w₁ w₂ x y. (x .0 ∙ sym (y .0), refl); free = λ κs args. tt; whole = λ κs args r e w. refl }
 
 pub coupler-why-not-stated : Stated coupler-why-not-kinds.ps coupler-why-not-kinds.r coupler-why-not-reads.Pre coupler-why-not-reads.Post (λ κs a. coupler-why-not-reads.ensures κs a tt)
 coupler-why-not-stated = record { determines = λ κs args r₁ r₂ w₁ w₂ x y. (x ∙ sym y, refl); free = λ κs args. tt; whole = λ κs args r e w. refl }
