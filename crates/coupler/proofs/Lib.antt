@@ -1,4 +1,5 @@
 pub mod StepLaws
+mod HearingLaws
 pub mod Refusals
 pub mod Promised
 pub mod PassingLaws

@@ -85,18 +85,10 @@ pub ip-ranged : (s : List ℕ) (x : Message) → Octets s → readRouting s ≡ 
 ip-ranged s x o e = cemi-read-laid IndicationOnly (drop 6 s) x (octets-drop 6 s o) (read-datagram s x o e .1) .valid .valid .ranges
 
 -- what became of an accepted frame is what a step says of it
-handed : {k : Setting} {remembered room : List ℕ} {o : Outcome} {room′ : List ℕ} {rep : Bool} {m : Meaning} {p : List ℕ} → rep ≡ repeats k remembered m
+pub handed : {k : Setting} {remembered room : List ℕ} {o : Outcome} {room′ : List ℕ} {rep : Bool} {m : Meaning} {p : List ℕ} → rep ≡ repeats k remembered m
     → PassedOn k rep m p room o room′ → HandedOn k remembered (frame m p) room o room′
 handed {k} {room = room} {m = m} {p = p} e x =
     record { outcome = x .outcome ∙ ap (λ (b : Bool). acceptedOutcome k b m p) e; left = x .left ∙ ap (λ (b : Bool). over (sentOf k b m p) room) e }
-
-pub handed-tp1 : {k : Setting} {remembered room : List ℕ} {o : Outcome} {room′ : List ℕ} {rep : Bool} {m : Meaning} {p : List ℕ} → fromIp k ≡ false → rep ≡ isRepetition remembered m
-    → PassedOn k rep m p room o room′ → HandedOn k remembered (frame m p) room o room′
-handed-tp1 {remembered = remembered} {m = m} f e x = handed (e ∙ ap (λ (b : Bool). not b && isRepetition remembered m) (sym f)) x
-
-pub handed-ip : {k : Setting} {remembered room : List ℕ} {o : Outcome} {room′ : List ℕ} {m : Meaning} {p : List ℕ} → fromIp k ≡ true
-    → PassedOn k false m p room o room′ → HandedOn k remembered (frame m p) room o room′
-handed-ip {remembered = remembered} {m = m} f x = handed (ap (λ (b : Bool). not b && isRepetition remembered m) (sym f)) x
 
 -- a refusal leaves the room as it was
 pub handed-nothing : (k : Setting) (remembered room : List ℕ) (r : Refusal) {o : Outcome} → o ≡ refusedOutcome r → HandedOn k remembered (nothing r) room o room

@@ -2,4 +2,5 @@ pub mod Settings
 pub mod Passing
 pub mod Memory
 pub mod Step
+pub mod Hearing
 pub mod Series

@@ -6,19 +6,23 @@ ghost use lib.ListN.{length};
 ghost use Rattle.octets.specs.Room.{over};
 ghost use Rattle.frame.specs.Order.{firstOf};
 ghost use Rattle.frame.specs.Valid.{inRange};
-ghost use Rattle.tp1.specs.Reading.{readTp1};
 ghost use Rattle.routing.specs.Reading.{readRouting};
 ghost use Rattle.coupler.specs.Memory.{isRepetition};
-ghost use Rattle.coupler.specs.Step.{settingOf, settingTests, judgedBy, fromIp, heardTp1, heardIp, isAllowed, acknowledgementBy, forwardedMeaning, formOf, putSize, Sent, refusedOutcome, PassedOn, HandedOn};
+ghost use Rattle.coupler.specs.Hearing.{meaningOnly, answerOn, payloadOn};
+ghost use Rattle.coupler.specs.Step.{settingOf, settingTests, judgedBy, fromIp, readBy, isAllowed, acknowledgementBy, forwardedMeaning, formOf, putSize, Sent, refusedOutcome, PassedOn, HandedOn};
 use crate::Acknowledgement;
 use crate::Judged;
 use crate::Outcome;
 use cemi::CemiAnswer;
+use cemi::Codes;
 use cemi::Message;
 use frame::Meaning;
 use frame::Refusal;
 use frame::Written;
+use routing::Header;
 use tp1::Tp1Answer;
+
+const ROUTING_INDICATION: u16 = 0x0530;
 
 pub(crate) fn refused(refusal: Refusal) -> Outcome
     ensures { λ r. ⌜ r ≡ refusedOutcome refusal ⌝ }
@@ -182,7 +186,59 @@ fn is_repetition(remembered: &[u8], meaning: Meaning) -> bool
         & (before.group == meaning.group)
 }
 
-pub(crate) fn from_tp1(
+fn meaning_only(answer: CemiAnswer) -> Tp1Answer
+    ensures { λ r. ⌜ r ≡ meaningOnly answer ⌝ }
+{
+    match answer {
+        CemiAnswer::Refused(refusal) => Tp1Answer::Refused(refusal),
+        CemiAnswer::Frame(message) => {
+            let meaning = message.meaning;
+            Tp1Answer::Frame(meaning)
+        }
+    }
+}
+
+// The two calls that `routing::read` makes. As one call it is too long for the compiler to put in
+// place, and a step from IP takes a third more instructions.
+fn hear_datagram(octets: &[u8]) -> Tp1Answer
+    ensures { λ r. ⌜ r ≡ meaningOnly (readRouting (now (octets .entry))) ⌝ }
+{
+    let header = routing::read_header(octets, ROUTING_INDICATION);
+    match header {
+        Header::Wrong(refusal) => Tp1Answer::Refused(refusal),
+        Header::Right => meaning_only(cemi::read(Codes::IndicationOnly, &octets[6..])),
+    }
+}
+
+// What a frame means, or the reader's refusal, whichever medium it came by.
+fn hear(ip: bool, octets: &[u8]) -> Tp1Answer
+    ensures { λ r. ⌜ r ≡ answerOn ip (now (octets .entry)) ⌝ }
+{
+    if ip {
+        hear_datagram(octets)
+    } else {
+        tp1::read(octets)
+    }
+}
+
+// The payload of a frame that was heard, as a part of the octets received.
+fn payload_of(ip: bool, meaning: Meaning, octets: &[u8]) -> &[u8]
+    ensures { λ r. ⌜ now r ≡ payloadOn ip meaning (now (octets .entry)) ⌝ }
+{
+    if ip {
+        let message = Message {
+            code: 0x29,
+            error: false,
+            meaning,
+        };
+        routing::payload(CemiAnswer::Frame(message), octets)
+    } else {
+        tp1::payload(Tp1Answer::Frame(meaning), octets)
+    }
+}
+
+// Heard and passed on by one call for both media, so that the compiler puts it in place.
+pub(crate) fn receive(
     line: u8,
     codes: [[u8; 4]; 2],
     table: &[u8],
@@ -192,15 +248,16 @@ pub(crate) fn from_tp1(
     octets: &[u8],
     room: &mut [u8],
 ) -> Outcome
-    requires { ⌜ (fromIp (settingOf line codes (now table) side medium) ≡ false) × (272 ≤ length (now room)) ⌝ }
-    ensures { λ r. ⌜ HandedOn (settingOf line codes (now (table .entry)) side medium) (now (remembered .entry)) (heardTp1 (readTp1 (now (octets .entry))) (now (octets .entry))) (now (room .entry)) r (now (room .exit)) ⌝ }
+    requires { ⌜ 272 ≤ length (now room) ⌝ }
+    ensures { λ r. ⌜ HandedOn (settingOf line codes (now (table .entry)) side medium) (now (remembered .entry)) (readBy (fromIp (settingOf line codes (now (table .entry)) side medium)) (now (octets .entry))) (now (room .entry)) r (now (room .exit)) ⌝ }
 {
-    let answer = tp1::read(octets);
+    let ip = (side == 0) & (medium == 1);
+    let answer = hear(ip, octets);
     match answer {
         Tp1Answer::Refused(refusal) => refused(refusal),
         Tp1Answer::Frame(meaning) => {
-            let payload = tp1::payload(answer, octets);
-            let repetition = is_repetition(remembered, meaning);
+            let payload = payload_of(ip, meaning, octets);
+            let repetition = !ip & is_repetition(remembered, meaning);
             pass_on(
                 line,
                 codes,
@@ -208,40 +265,6 @@ pub(crate) fn from_tp1(
                 side,
                 medium,
                 repetition,
-                meaning,
-                payload,
-                room,
-            )
-        }
-    }
-}
-
-pub(crate) fn from_ip(
-    line: u8,
-    codes: [[u8; 4]; 2],
-    table: &[u8],
-    side: u8,
-    medium: u8,
-    remembered: &[u8],
-    octets: &[u8],
-    room: &mut [u8],
-) -> Outcome
-    requires { ⌜ (fromIp (settingOf line codes (now table) side medium) ≡ true) × (272 ≤ length (now room)) ⌝ }
-    ensures { λ r. ⌜ HandedOn (settingOf line codes (now (table .entry)) side medium) (now (remembered .entry)) (heardIp (readRouting (now (octets .entry))) (now (octets .entry))) (now (room .entry)) r (now (room .exit)) ⌝ }
-{
-    let answer = routing::read(octets);
-    match answer {
-        CemiAnswer::Refused(refusal) => refused(refusal),
-        CemiAnswer::Frame(message) => {
-            let payload = routing::payload(answer, octets);
-            let meaning = message.meaning;
-            pass_on(
-                line,
-                codes,
-                table,
-                side,
-                medium,
-                false,
                 meaning,
                 payload,
                 room,

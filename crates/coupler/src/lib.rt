@@ -161,12 +161,7 @@ pub fn hand_on(
     match judged {
         Judged::Refused(refusal) => forwarding::refused(refusal),
         Judged::Fine => {
-            let ip = (side == 0) & (medium == 1);
-            if ip {
-                forwarding::from_ip(line, codes, table, side, medium, remembered, octets, room)
-            } else {
-                forwarding::from_tp1(line, codes, table, side, medium, remembered, octets, room)
-            }
+            forwarding::receive(line, codes, table, side, medium, remembered, octets, room)
         }
     }
 }

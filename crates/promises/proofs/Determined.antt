@@ -5,6 +5,7 @@ use Rattle.frame.proofs.Writing.{wrote-one}
 use Rattle.coupler.proofs.StepLaws.{handed-one, did-one}
 use Rattle.site.proofs.LettingLaws.{marks-one}
 use Rattle.tracer.proofs.ListedBy.{traced-one}
+use Rattle.report.proofs.ReportLaws.{reported-one}
 use Rattle.klumdray.proofs.Surface.{wrote-number-one, traced-through-one}
 use Rattle.klumdray.proofs.BlockLaws.{stepped-one}
 use Rattle.promises.proofs.Stated.{Stated, StatedBy, SamePart}
@@ -116,6 +117,8 @@ use Rattle.tracer.proofs.trace.Kinds as tracer-trace-kinds
 use Rattle.tracer.proofs.trace.Reads as tracer-trace-reads
 use Rattle.tracer.proofs.why.Kinds as tracer-why-kinds
 use Rattle.tracer.proofs.why.Reads as tracer-why-reads
+use Rattle.report.proofs.report.Kinds as report-report-kinds
+use Rattle.report.proofs.report.Reads as report-report-reads
 use Rattle.klumdray.proofs.klumdray_trace.Kinds as klumdray-trace-kinds
 use Rattle.klumdray.proofs.klumdray_trace.Reads as klumdray-trace-reads
 use Rattle.klumdray.proofs.klumdray_why.Kinds as klumdray-why-kinds
@@ -274,6 +277,11 @@ tracer-trace-stated = record { determines = λ κs args r₁ r₂ w₁ w₂ x y.
 
 pub tracer-why-stated : Stated tracer-why-kinds.ps tracer-why-kinds.r tracer-why-reads.Pre tracer-why-reads.Post (λ κs a. tracer-why-reads.ensures κs a tt)
 tracer-why-stated = record { determines = λ κs args r₁ r₂ w₁ w₂ x y. (x ∙ sym y, refl); free = λ κs args. tt; whole = λ κs args r e w. refl }
+
+-- report
+
+pub report-report-stated : Stated report-report-kinds.ps report-report-kinds.r report-report-reads.Pre report-report-reads.Post (λ κs a. report-report-reads.ensures κs a tt)
+report-report-stated = record { determines = λ κs args r₁ r₂ w₁ w₂ x y. let e = reported-one x y in (e .0, λ i. (tt, (e .1 i, tt))); free = λ κs args. tt; whole = λ κs args r e w. refl }
 
 -- klumdray
 

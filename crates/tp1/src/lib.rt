@@ -23,9 +23,8 @@ pub fn read(octets: &[u8]) -> Tp1Answer
     ensures { λ r. ⌜ r ≡ readTp1 (now (octets .entry)) ⌝ }
 {
     if octets.len() == 0 {
-        return Tp1Answer::Refused(Refusal::TooFew);
-    }
-    if reading::is_control(octets[0]) {
+        Tp1Answer::Refused(Refusal::TooFew)
+    } else if reading::is_control(octets[0]) {
         reading::read_head(octets)
     } else {
         Tp1Answer::Refused(Refusal::NotData)

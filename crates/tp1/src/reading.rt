@@ -1,5 +1,6 @@
 // The tests of document 01's order for TP1, and the meaning of octets that pass them.
 ghost use mathlib.Core.Path.{_≡_};
+ghost use mathlib.Core.Bool.{cond};
 ghost use Prim.Native.Nat.{_≤_};
 ghost use lib.ListN.{length};
 ghost use Rattle.frame.specs.Fields.{isControl};
@@ -31,13 +32,18 @@ fn is_extended(octets: &[u8]) -> bool
 fn is_other_format(octets: &[u8]) -> bool
     ensures { λ r. ⌜ r ≡ isOtherFormat (now (octets .entry)) ⌝ }
 {
-    is_extended(octets) & (octets::octet(octets, 1) % 16 != 0)
+    if is_extended(octets) {
+        octets::octet(octets, 1) % 16 != 0
+    } else {
+        false
+    }
 }
 
 fn is_escape(octets: &[u8]) -> bool
     ensures { λ r. ⌜ r ≡ isEscape (now (octets .entry)) ⌝ }
 {
-    is_extended(octets) & (octets::octet(octets, 6) == 255)
+    let escape = octets::octet(octets, 6) == 255;
+    if is_extended(octets) { escape } else { false }
 }
 
 // 8 + LG or 9 + LG.
@@ -59,21 +65,25 @@ fn is_checked(octets: &[u8]) -> bool
     octets[last] == octets::check_octet(&octets[..last])
 }
 
+// Where the octet of AT and hop count stands.
+fn ctrle_at(extended: bool) -> usize
+    ensures { λ r. ⌜ r ≡ cond extended 1 5 ⌝ }
+{
+    if extended { 1 } else { 5 }
+}
+
 pub(crate) fn meaning_in(octets: &[u8]) -> Meaning
     ensures { λ r. ⌜ r ≡ meaningIn (now (octets .entry)) ⌝ }
 {
-    if is_extended(octets) {
-        frame::fields_meaning(octets)
-    } else {
-        let source = octets::word_at(octets, 1);
-        let destination = octets::word_at(octets, 3);
-        frame::meaning_of(
-            octets::octet(octets, 0),
-            octets::octet(octets, 5),
-            source,
-            destination,
-        )
-    }
+    let extended = is_extended(octets);
+    let at = ctrle_at(extended);
+    let head = head_of(extended);
+    let start = head - 5;
+    let control = octets::octet(octets, 0);
+    let ctrle = octets::octet(octets, at);
+    let source = octets::word_at(octets, start);
+    let destination = octets::word_at(octets, start + 2);
+    frame::meaning_of(control, ctrle, source, destination)
 }
 
 // From the sixth test of the order on.
@@ -82,12 +92,10 @@ fn read_end(octets: &[u8]) -> Tp1Answer
 {
     let size = frame_size(octets);
     if octets.len() < size {
-        return Tp1Answer::Refused(Refusal::TooFew);
-    }
-    if size < octets.len() {
-        return Tp1Answer::Refused(Refusal::LeftOver);
-    }
-    if is_checked(octets) {
+        Tp1Answer::Refused(Refusal::TooFew)
+    } else if size < octets.len() {
+        Tp1Answer::Refused(Refusal::LeftOver)
+    } else if is_checked(octets) {
         Tp1Answer::Frame(meaning_in(octets))
     } else {
         Tp1Answer::Refused(Refusal::WrongCheck)
@@ -100,13 +108,12 @@ pub(crate) fn read_head(octets: &[u8]) -> Tp1Answer
 {
     let least = head_of(is_extended(octets));
     if octets.len() < least {
-        return Tp1Answer::Refused(Refusal::TooFew);
+        Tp1Answer::Refused(Refusal::TooFew)
+    } else if is_other_format(octets) {
+        Tp1Answer::Refused(Refusal::OtherFormat)
+    } else if is_escape(octets) {
+        Tp1Answer::Refused(Refusal::Escape)
+    } else {
+        read_end(octets)
     }
-    if is_other_format(octets) {
-        return Tp1Answer::Refused(Refusal::OtherFormat);
-    }
-    if is_escape(octets) {
-        return Tp1Answer::Refused(Refusal::Escape);
-    }
-    read_end(octets)
 }

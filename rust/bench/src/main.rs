@@ -9,6 +9,17 @@ mod tp1;
 mod tracer;
 
 fn main() {
+    if !measure::is_told() {
+        print_introduction();
+    }
+    tp1::rows();
+    cemi::rows();
+    routing::rows();
+    coupler::rows();
+    tracer::rows();
+}
+
+fn print_introduction() {
     println!("Proved library beside the reference in Rust, both built for release.");
     println!("Both are real calls: the library's through its C surface, the reference's through");
     println!("functions that are never inlined. Batches alternate between the two; a time is the");
@@ -38,9 +49,4 @@ fn main() {
     }
     println!();
     measure::print_heading();
-    tp1::rows();
-    cemi::rows();
-    routing::rows();
-    coupler::rows();
-    tracer::rows();
 }

@@ -8,17 +8,11 @@ use Rattle.frame.specs.Order.{firstOf}
 use Rattle.coupler.proofs.hand_on.Statement.{statement}
 use Rattle.coupler.proofs.hand_on.Tie as tie
 
-from-ip-requires : tie.Need-from-ip-requires
-from-ip-requires c κs =
-    let k = settingOf (c .before .before .before .before .before .before .before .before .before .args .line) (c .before .before .before .before .before .before .before .before .before .args .codes) (c .before .before .before .before .before .before .before .before .before .args .table .now) (c .before .before .before .before .before .before .before .before .before .args .side) (c .before .before .before .before .before .before .before .before .before .args .medium) in
-    let n = length (c .before .before .before .before .before .before .before .before .before .args .room .now) in
-    (c .before .if1 .taken, fine-room k n (sym (c .before .before .enum-told .given .1) ∙ c .before .before .before .before .judge .ensures))
-
-from-tp1-requires : tie.Need-from-tp1-requires
-from-tp1-requires c κs =
-    let k = settingOf (c .before .before .before .before .before .before .before .before .before .args .line) (c .before .before .before .before .before .before .before .before .before .args .codes) (c .before .before .before .before .before .before .before .before .before .args .table .now) (c .before .before .before .before .before .before .before .before .before .args .side) (c .before .before .before .before .before .before .before .before .before .args .medium) in
-    let n = length (c .before .before .before .before .before .before .before .before .before .args .room .now) in
-    (c .before .if1 .left, fine-room k n (sym (c .before .before .enum-told .given .1) ∙ c .before .before .before .before .judge .ensures))
+receive-requires : tie.Need-receive-requires
+receive-requires c κs =
+    let k = settingOf (c .before .before .before .before .before .before .before .before .args .line) (c .before .before .before .before .before .before .before .before .args .codes) (c .before .before .before .before .before .before .before .before .args .table .now) (c .before .before .before .before .before .before .before .before .args .side) (c .before .before .before .before .before .before .before .before .args .medium) in
+    let n = length (c .before .before .before .before .before .before .before .before .args .room .now) in
+    fine-room k n (sym (c .before .enum-told .given .1) ∙ c .before .before .before .judge .ensures)
 
 returns : tie.Need-returns
 unfolding heard
@@ -30,16 +24,9 @@ returns c =
 returns-2 : tie.Need-returns-2
 unfolding heard
 returns-2 c =
-    let k = settingOf (c .before .before .before .before .before .before .before .before .before .before .before .before .args .line) (c .before .before .before .before .before .before .before .before .before .before .before .before .args .codes) (c .before .before .before .before .before .before .before .before .before .before .before .before .args .table .now) (c .before .before .before .before .before .before .before .before .before .before .before .before .args .side) (c .before .before .before .before .before .before .before .before .before .before .before .before .args .medium) in
-    let n = length (c .before .before .before .before .before .before .before .before .before .before .before .before .args .room .now) in
-    rw (judged-fine (firstOf (settingTests k n)) (sym (c .before .before .before .before .before .enum-told .given .1) ∙ c .before .before .before .before .before .before .before .judge .ensures), c .before .before .before .before .if1 .taken) (c .before .before .from-ip .ensures)
-
-returns-3 : tie.Need-returns-3
-unfolding heard
-returns-3 c =
-    let k = settingOf (c .before .before .before .before .before .before .before .before .before .before .before .before .args .line) (c .before .before .before .before .before .before .before .before .before .before .before .before .args .codes) (c .before .before .before .before .before .before .before .before .before .before .before .before .args .table .now) (c .before .before .before .before .before .before .before .before .before .before .before .before .args .side) (c .before .before .before .before .before .before .before .before .before .before .before .before .args .medium) in
-    let n = length (c .before .before .before .before .before .before .before .before .before .before .before .before .args .room .now) in
-    rw (judged-fine (firstOf (settingTests k n)) (sym (c .before .before .before .before .before .enum-told .given .1) ∙ c .before .before .before .before .before .before .before .judge .ensures), c .before .before .before .before .if1 .left) (c .before .before .from-tp1 .ensures)
+    let k = settingOf (c .before .before .before .before .before .before .before .before .before .before .before .args .line) (c .before .before .before .before .before .before .before .before .before .before .before .args .codes) (c .before .before .before .before .before .before .before .before .before .before .before .args .table .now) (c .before .before .before .before .before .before .before .before .before .before .before .args .side) (c .before .before .before .before .before .before .before .before .before .before .before .args .medium) in
+    let n = length (c .before .before .before .before .before .before .before .before .before .before .before .args .room .now) in
+    rw (judged-fine (firstOf (settingTests k n)) (sym (c .before .before .before .before .enum-told .given .1) ∙ c .before .before .before .before .before .before .judge .ensures)) (c .before .before .receive .ensures)
 
 pub hand-on-spec : {M : Type 1} → statement M
 hand-on-spec =
@@ -49,10 +36,7 @@ hand-on-spec =
     (λ c. search needs)
     (λ c κs. search needs)
     (λ c. search needs)
-    from-ip-requires
-    from-tp1-requires
+    receive-requires
     returns
     (λ c. search needs)
-    returns-2
-    (λ c. search needs)
-    returns-3)
+    returns-2)

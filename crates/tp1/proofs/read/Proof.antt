@@ -25,9 +25,9 @@ pub read-spec : {M : Type 1} → statement M
 read-spec =
     tie.close
     (tie.spec
-    returns
     (λ c. search needs)
     (λ c κs. search needs)
     (λ c κs. search needs)
+    returns
     returns-2
     returns-3)

@@ -1,4 +1,5 @@
--- The format's test and the octet of LG, as the calls ensure them.
+-- A standard frame has no such octet; of an extended one, the octet of LG, as the call ensures it.
+use mathlib.Core.Path.{sym, _∙_}
 use borrow.Author.Needs.{needs}
 use Rattle.tp1.specs.Reading.{isEscape}
 use Rattle.tp1.proofs.reading.is_escape.Statement.{statement}
@@ -7,7 +8,12 @@ use Rattle.tp1.proofs.reading.is_escape.Tie as tie
 returns : tie.Need-returns
 unfolding isEscape
 returns c =
-    rw (c .before .is-extended .ensures, c .octet .ensures)
+    rw (sym (c .before .is-extended .ensures) ∙ c .if1 .taken, c .before .before .octet .ensures)
+
+returns-2 : tie.Need-returns-2
+unfolding isEscape
+returns-2 c =
+    rw (sym (c .before .is-extended .ensures) ∙ c .if1 .left)
 
 pub is-escape-spec : {M : Type 1} → statement M
 is-escape-spec =
@@ -15,4 +21,5 @@ is-escape-spec =
     (tie.spec
     (λ c κs. search needs)
     (λ c κs. search needs)
-    returns)
+    returns
+    returns-2)

@@ -37,9 +37,9 @@ read-end-spec =
     tie.close
     (tie.spec
     (λ c κs. search needs)
-    returns
-    returns-2
     is-checked-requires
     (λ c κs. search needs)
+    returns
+    returns-2
     returns-3
     returns-4)

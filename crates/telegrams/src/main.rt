@@ -1,0 +1,40 @@
+// Runs the sources' examples and writes what each gives, as tests/telegrams/README.md says.
+//
+// It reads a list of rows (tools/make-telegrams makes it). A row is a list again: the name, the
+// format's letter, and the octets; for a step the setting, the groups, and each frame received.
+mod lists;
+mod reads;
+mod steps;
+mod text;
+
+fn run_row(row: &[u8]) {
+    io::write_all(1, lists::first(row));
+    io::write_all(1, b" ");
+    let from_format = lists::rest(row);
+    let letter = octets::octet(lists::first(from_format), 0);
+    let from_octets = lists::rest(from_format);
+    let given = lists::first(from_octets);
+    match letter {
+        b't' => reads::run_tp1(given),
+        b'c' => reads::run_cemi(given),
+        b'r' => reads::run_routing(given),
+        b's' => steps::run_steps(given, lists::rest(from_octets)),
+        _ => {}
+    }
+    io::write_all(1, b"\n");
+}
+
+fn run_rows(rows: &[u8]) {
+    let mut at = 0;
+    while at < rows.len() {
+        let left = &rows[at..];
+        run_row(lists::first(left));
+        at += lists::end(left);
+    }
+}
+
+fn main() {
+    let mut input = io::large_buffer();
+    let read = io::read_full(0, &mut input);
+    run_rows(&input[..read]);
+}
