@@ -6,11 +6,10 @@ use mathlib.Core.Path.{_≡_}
 use lib.ListN.{length}
 use Rattle.coupler.specs.Passing.{listedOctet, listedBit}
 use Rattle.coupler.specs.Step.{Setting, settingOf, Heard, heard, outcomeOf, sent}
-use Rattle.coupler.specs.declared.Acknowledgement.the-variants.{Silence, Acknowledged}
-use Rattle.coupler.specs.declared.Acknowledgement.{Acknowledgement}
 use Rattle.frame.specs.Order.{Verdict, firstOf}
 use Rattle.frame.specs.Refusals.{number}
 use Rattle.frame.specs.declared.Meaning.{Meaning}
+use Rattle.klumdray.specs.Block.{acknowledgementNumber}
 use Rattle.site.specs.Stores.{stores}
 use Rattle.tp1.specs.Reading.{payloadIn, readTp1}
 use Rattle.tp1.specs.declared.Tp1Answer.the-variants.{Frame, Refused}
@@ -27,9 +26,9 @@ abbrev pub said : Tp1Answer → List ℕ → Said
 said (Frame m) s = accepted m (payloadIn (Frame m) s)
 said (Refused r) s = refused (number r)
 
--- what a coupler that remembers nothing does with octets: acknowledgement, and the octets that it sends
+-- what a coupler that remembers nothing does with octets: its acknowledgement as the paper's number (CCh, 0 for none), and the octets that it sends
 pub data Does : Type 0 where
-  sends : Acknowledgement → List ℕ → Does
+  sends : ℕ → List ℕ → Does
 
 infix 20 tp1_is_
 infix 20 _hears_and_
@@ -46,7 +45,7 @@ pub data Case : Type 0 where
   _on_lists_by_ : Query → List ℕ → List ℕ → ℕ → Case
 
 abbrev pub does : Setting → Heard → Does
-does k h = sends (outcomeOf k [] h .acknowledgement) (sent k [] h)
+does k h = sends (acknowledgementNumber (outcomeOf k [] h .acknowledgement)) (sent k [] h)
 
 -- an accepted frame, and what becomes of it
 abbrev pub Handles : Setting → Heard → Does → Type 0
@@ -112,25 +111,25 @@ fromIpOpen = settingOf 0x47 (groupsOpen ∷ groupsOpen ∷ []) [] 0 1
 abbrev pub P7 : Case
 P7 =
     fromIpOpen hears 0x06 ∷ 0x10 ∷ 0x05 ∷ 0x30 ∷ 0x00 ∷ 0x14 ∷ 0x29 ∷ 0x00 ∷ 0xBC ∷ 0xC0 ∷ 0x00 ∷ 0x00 ∷ 0x12 ∷ 0x34 ∷ 0x04 ∷ 0x00 ∷ 0x80 ∷ 0x56 ∷ 0x78 ∷ 0x9A ∷ []
-    and sends Silence (0xBC ∷ 0x00 ∷ 0x00 ∷ 0x12 ∷ 0x34 ∷ 0xB4 ∷ 0x00 ∷ 0x80 ∷ 0x56 ∷ 0x78 ∷ 0x9A ∷ 0xE5 ∷ [])
+    and sends 0 (0xBC ∷ 0x00 ∷ 0x00 ∷ 0x12 ∷ 0x34 ∷ 0xB4 ∷ 0x00 ∷ 0x80 ∷ 0x56 ∷ 0x78 ∷ 0x9A ∷ 0xE5 ∷ [])
 
 -- "with 80 in place of C0: nothing forwarded"
 abbrev pub P8 : Case
 P8 =
     fromIpOpen hears 0x06 ∷ 0x10 ∷ 0x05 ∷ 0x30 ∷ 0x00 ∷ 0x14 ∷ 0x29 ∷ 0x00 ∷ 0xBC ∷ 0x80 ∷ 0x00 ∷ 0x00 ∷ 0x12 ∷ 0x34 ∷ 0x04 ∷ 0x00 ∷ 0x80 ∷ 0x56 ∷ 0x78 ∷ 0x9A ∷ []
-    and sends Silence []
+    and sends 0 []
 
 -- "with F0: BC 00 00 12 34 F4 00 80 56 78 9A A5"
 abbrev pub P9 : Case
 P9 =
     fromIpOpen hears 0x06 ∷ 0x10 ∷ 0x05 ∷ 0x30 ∷ 0x00 ∷ 0x14 ∷ 0x29 ∷ 0x00 ∷ 0xBC ∷ 0xF0 ∷ 0x00 ∷ 0x00 ∷ 0x12 ∷ 0x34 ∷ 0x04 ∷ 0x00 ∷ 0x80 ∷ 0x56 ∷ 0x78 ∷ 0x9A ∷ []
-    and sends Silence (0xBC ∷ 0x00 ∷ 0x00 ∷ 0x12 ∷ 0x34 ∷ 0xF4 ∷ 0x00 ∷ 0x80 ∷ 0x56 ∷ 0x78 ∷ 0x9A ∷ 0xA5 ∷ [])
+    and sends 0 (0xBC ∷ 0x00 ∷ 0x00 ∷ 0x12 ∷ 0x34 ∷ 0xF4 ∷ 0x00 ∷ 0x80 ∷ 0x56 ∷ 0x78 ∷ 0x9A ∷ 0xA5 ∷ [])
 
 -- "coupler FFh, broadcast open, from main B0 AF FE 00 00 E1 01 00 FE: CCh and B0 AF FE 00 00 D1 01 00 CE"
 abbrev pub P10 : Case
 P10 =
     settingOf 0xFF (broadcastOpen ∷ closedRow ∷ []) [] 0 0 hears 0xB0 ∷ 0xAF ∷ 0xFE ∷ 0x00 ∷ 0x00 ∷ 0xE1 ∷ 0x01 ∷ 0x00 ∷ 0xFE ∷ []
-    and sends Acknowledged (0xB0 ∷ 0xAF ∷ 0xFE ∷ 0x00 ∷ 0x00 ∷ 0xD1 ∷ 0x01 ∷ 0x00 ∷ 0xCE ∷ [])
+    and sends 0xCC (0xB0 ∷ 0xAF ∷ 0xFE ∷ 0x00 ∷ 0x00 ∷ 0xD1 ∷ 0x01 ∷ 0x00 ∷ 0xCE ∷ [])
 
 -- "group 6FFFh is bit 7 of octet 3,583; 7000h is bit 0 of octet 3,584"
 abbrev pub P11a : Case
