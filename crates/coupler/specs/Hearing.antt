@@ -1,4 +1,5 @@
--- Meaning and payload of a frame that was heard, apart: what the step's readers give on the way to `readBy`.
+-- Meaning and payload of a frame that was heard, apart: for the contracts of private functions, on the way to `readBy`. No public contract
+-- rests on these definitions.
 use Prim.Native.Nat.{ℕ}
 use mathlib.Core.List.{List}
 use mathlib.Core.Bool.{Bool, true, false}

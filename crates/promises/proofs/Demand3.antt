@@ -14,14 +14,14 @@ use Rattle.frame.specs.Valid.{Valid}
 use Rattle.frame.specs.declared.Meaning.{Meaning}
 use Rattle.octets.specs.Room.{over}
 use Rattle.site.specs.Stores.{Stores}
-use Rattle.site.specs.WellFormed.{siteTests}
+use Rattle.site.specs.WellFormed.{isAmong, siteTests}
 use Rattle.tp1.specs.Layout.{tp1Octets}
 use Rattle.tracer.proofs.Explained.{reached-iff, StoppedAt, not-reached}
 use Rattle.tracer.proofs.Journey.{list-is-journey}
 use Rattle.tracer.proofs.ListLaws.{linesOf, Rising, start-listed, entry-listed, trace-three-each, trace-rises, trace-has, trace-less-one}
 use Rattle.tracer.proofs.Paths.{distance-four}
 use Rattle.tracer.specs.Journey.{ArrivesWith, askedOf, ListedWith}
-use Rattle.tracer.specs.Lines.{isOn, path, distance}
+use Rattle.tracer.specs.Lines.{path, distance}
 use Rattle.tracer.specs.Listing.{isListed, Query, letsPass, allPass, lasts, onArrival, entry, listed, linesListed}
 use Rattle.tracer.specs.Tracing.{isQuery, traceTests, tracedBy, listBy, DidTrace}
 use Rattle.tracer.specs.Why.{whyOf}
@@ -37,7 +37,7 @@ pub record Lists (st : Stores) (site : List ℕ) (q : Query) (room : List ℕ) (
   -- three octets for each line
   pub counted : length (listed st site q) ≡ answer .lines * 3
   -- exactly those lines
-  pub exactly : (line : ℕ) → line < 256 → isOn line (linesOf (listed st site q)) ≡ allPass (letsPass st site q) (path (q .start) line) && lasts (q .count) (length (path (q .start) line))
+  pub exactly : (line : ℕ) → line < 256 → isAmong line (linesOf (listed st site q)) ≡ allPass (letsPass st site q) (path (q .start) line) && lasts (q .count) (length (path (q .start) line))
   -- each once, in rising order
   pub rising : Rising (linesOf (listed st site q))
   -- with count on arrival and couplers crossed

@@ -16,7 +16,7 @@ unfoldable pub hasTable : Stores → List ℕ → Bool
 hasTable st r =
     cond (eqb (tableNumber r) 0xff) (not (asksTable (codesOf r))) (eqb (length (tableOf (tableNumber r) st)) 8192)
 
--- whether one of the lines before is this one
+-- whether a line is one of these
 abbrev pub isAmong : ℕ → List ℕ → Bool
 isAmong line [] = false
 isAmong line (n ∷ ns) = eqb n line || isAmong line ns

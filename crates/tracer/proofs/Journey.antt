@@ -20,7 +20,7 @@ use Rattle.octets.specs.Octets.{octetAt, Octets}
 use Rattle.site.specs.Letting.{lets}
 use Rattle.site.specs.Records.{recordsOf, couplerOf}
 use Rattle.site.specs.Stores.{Stores}
-use Rattle.site.specs.WellFormed.{siteTests}
+use Rattle.site.specs.WellFormed.{isAmong, siteTests}
 use Rattle.tp1.proofs.RoundTrip.{laid-read}
 use Rattle.tp1.specs.Layout.{tp1Octets}
 use Rattle.tp1.specs.Reading.{readTp1}
@@ -30,14 +30,14 @@ use Rattle.tracer.proofs.Handing.{hands-passes, passes-hands, hopped-mo
 use Rattle.tracer.proofs.ListLaws.{start-listed}
 use Rattle.tracer.proofs.Paths.{by-cases, never, main-below, mains-cons, by-mains, or-right, on-self, on-zero, on-below, on-next, on-main, path-same, path-down, path-up, distance-zero}
 use Rattle.tracer.specs.Journey.{Hands, Way, Arrives, ArrivesWith, askedOf, ListedWith, withCount, put, over, at-start, handed-up, handed-down}
-use Rattle.tracer.specs.Lines.{mainSide, mainSides, isOn, crossing, path, distance}
+use Rattle.tracer.specs.Lines.{mainSide, mainSides, crossing, path, distance}
 use Rattle.tracer.specs.Listing.{Query, letsPass, isListed, onArrival, entry}
 
 -- which coupler is the last of the path from s to t: none, one that leads up from a line above s, or t's own
 data LastOf (s t : ℕ) (way : Way) : Type 0 where
   no-coupler : s ≡ t → way ≡ put → LastOf s t way
-  leads-up : (n : ℕ) → (n ≡ 0 → ⊥) → isOn n (mainSides s) ≡ true → t ≡ mainSide n → way ≡ over n → LastOf s t way
-  leads-down : (t ≡ 0 → ⊥) → isOn t (mainSides s) ≡ false → way ≡ over t → LastOf s t way
+  leads-up : (n : ℕ) → (n ≡ 0 → ⊥) → isAmong n (mainSides s) ≡ true → t ≡ mainSide n → way ≡ over n → LastOf s t way
+  leads-down : (t ≡ 0 → ⊥) → isAmong t (mainSides s) ≡ false → way ≡ over t → LastOf s t way
 
 none : {A : Type 0} {b : Bool} → b ≡ true → b ≡ false → A
 none e f = never (sym e ∙ f)
@@ -49,9 +49,9 @@ over-one : (k n : ℕ) → over k ≡ over n → k ≡ n
 over-one k n e = cc
 
 -- two lines above s with one main side are one
-above-one : (s m n : ℕ) → (m ≡ 0 → ⊥) → (n ≡ 0 → ⊥) → mainSide m ≡ mainSide n → isOn m (mainSides s) ≡ true → isOn n (mainSides s) ≡ true → m ≡ n
+above-one : (s m n : ℕ) → (m ≡ 0 → ⊥) → (n ≡ 0 → ⊥) → mainSide m ≡ mainSide n → isAmong m (mainSides s) ≡ true → isAmong n (mainSides s) ≡ true → m ≡ n
 above-one s m n hm hn e =
-    by-mains (λ s. isOn m (mainSides s) ≡ true → isOn n (mainSides s) ≡ true → m ≡ n)
+    by-mains (λ s. isAmong m (mainSides s) ≡ true → isAmong n (mainSides s) ≡ true → m ≡ n)
     (λ a b. absurd (hm (omega (arith, on-below m 0 a))))
     (λ s h ih a b.
     by-cases (eqb s m)
@@ -64,12 +64,12 @@ above-one s m n hm hn e =
     s
 
 -- a line above s that is not s is the main side of another
-above-of : (s t : ℕ) → isOn t (mainSides s) ≡ true → (s ≡ t → ⊥) → (n : ℕ) × ((n ≡ 0 → ⊥) × ((isOn n (mainSides s) ≡ true) × (t ≡ mainSide n)))
+above-of : (s t : ℕ) → isAmong t (mainSides s) ≡ true → (s ≡ t → ⊥) → (n : ℕ) × ((n ≡ 0 → ⊥) × ((isAmong n (mainSides s) ≡ true) × (t ≡ mainSide n)))
 above-of s t =
-    by-mains (λ s. isOn t (mainSides s) ≡ true → (s ≡ t → ⊥) → (n : ℕ) × ((n ≡ 0 → ⊥) × ((isOn n (mainSides s) ≡ true) × (t ≡ mainSide n))))
+    by-mains (λ s. isAmong t (mainSides s) ≡ true → (s ≡ t → ⊥) → (n : ℕ) × ((n ≡ 0 → ⊥) × ((isAmong n (mainSides s) ≡ true) × (t ≡ mainSide n))))
     (λ a d. absurd (d (omega (arith, on-below t 0 a))))
     (λ s h ih a d.
-    let u : isOn t (mainSides (mainSide s)) ≡ true = on-next t s d a .1 in
+    let u : isAmong t (mainSides (mainSide s)) ≡ true = on-next t s d a .1 in
     by-cases (eqb (mainSide s) t)
     (λ x. (s, (h, (on-self s, sym (eqb-true (mainSide s) t x)))))
     (λ x. let y = ih u (eqb-false (mainSide s) t x) in (y .0, (y .1 .0, (rw (mains-cons s h) (or-right (eqb s (y .0)) _ (y .1 .1 .0)), y .1 .1 .1)))))
@@ -77,46 +77,46 @@ above-of s t =
 
 -- handed on over another coupler than the last, the telegram goes on away from s
 
-goes-up : (s n : ℕ) (way : Way) → (n ≡ 0 → ⊥) → LastOf s n way → (way ≡ over n → ⊥) → isOn n (mainSides s) ≡ true
+goes-up : (s n : ℕ) (way : Way) → (n ≡ 0 → ⊥) → LastOf s n way → (way ≡ over n → ⊥) → isAmong n (mainSides s) ≡ true
 goes-up s n way h l d =
-    by-cases (isOn n (mainSides s)) (λ q. q) (λ q. no l q)
+    by-cases (isAmong n (mainSides s)) (λ q. q) (λ q. no l q)
   where
-    no : LastOf s n way → isOn n (mainSides s) ≡ false → isOn n (mainSides s) ≡ true
-    no (no-coupler e w) q = none (on-self s) (subst (λ (x : ℕ). isOn x (mainSides s) ≡ false) (sym e) q)
-    no (leads-up k hk a e w) q = none (on-main k s a) (subst (λ (x : ℕ). isOn x (mainSides s) ≡ false) e q)
+    no : LastOf s n way → isAmong n (mainSides s) ≡ false → isAmong n (mainSides s) ≡ true
+    no (no-coupler e w) q = none (on-self s) (subst (λ (x : ℕ). isAmong x (mainSides s) ≡ false) (sym e) q)
+    no (leads-up k hk a e w) q = none (on-main k s a) (subst (λ (x : ℕ). isAmong x (mainSides s) ≡ false) e q)
     no (leads-down hn b w) q = absurd (d w)
 
-goes-down : (s n : ℕ) (way : Way) → (n ≡ 0 → ⊥) → LastOf s (mainSide n) way → (way ≡ over n → ⊥) → isOn n (mainSides s) ≡ false
+goes-down : (s n : ℕ) (way : Way) → (n ≡ 0 → ⊥) → LastOf s (mainSide n) way → (way ≡ over n → ⊥) → isAmong n (mainSides s) ≡ false
 goes-down s n way h l d =
-    by-cases (isOn n (mainSides s)) (λ q. no l q) (λ q. q)
+    by-cases (isAmong n (mainSides s)) (λ q. no l q) (λ q. q)
   where
-    no : LastOf s (mainSide n) way → isOn n (mainSides s) ≡ true → isOn n (mainSides s) ≡ false
+    no : LastOf s (mainSide n) way → isAmong n (mainSides s) ≡ true → isAmong n (mainSides s) ≡ false
     no (no-coupler e w) q = absurd (omega (arith, on-below n s q, main-below n h))
     no (leads-up k hk a e w) q = absurd (d (w ∙ ap over (above-one s k n hk h (sym e) a q)))
     no (leads-down hn b w) q = none (on-main n s q) b
 
 -- and a coupler that leads away from s is not the last
 
-not-up : (s n : ℕ) (way : Way) → (n ≡ 0 → ⊥) → LastOf s n way → isOn n (mainSides s) ≡ true → way ≡ over n → ⊥
+not-up : (s n : ℕ) (way : Way) → (n ≡ 0 → ⊥) → LastOf s n way → isAmong n (mainSides s) ≡ true → way ≡ over n → ⊥
 not-up s n way h (no-coupler e w) q z = put-over n (sym w ∙ z)
 not-up s n way h (leads-up k hk a e w) q z = omega (arith, over-one k n (sym w ∙ z), main-below k hk)
 not-up s n way h (leads-down hn b w) q z = none q b
 
-not-down : (s n : ℕ) (way : Way) → (n ≡ 0 → ⊥) → LastOf s (mainSide n) way → isOn n (mainSides s) ≡ false → way ≡ over n → ⊥
+not-down : (s n : ℕ) (way : Way) → (n ≡ 0 → ⊥) → LastOf s (mainSide n) way → isAmong n (mainSides s) ≡ false → way ≡ over n → ⊥
 not-down s n way h (no-coupler e w) q z = put-over n (sym w ∙ z)
-not-down s n way h (leads-up k hk a e w) q z = none a (subst (λ (x : ℕ). isOn x (mainSides s) ≡ false) (sym (over-one k n (sym w ∙ z))) q)
+not-down s n way h (leads-up k hk a e w) q z = none a (subst (λ (x : ℕ). isAmong x (mainSides s) ≡ false) (sym (over-one k n (sym w ∙ z))) q)
 not-down s n way h (leads-down hn b w) q z = omega (arith, over-one (mainSide n) n (sym w ∙ z), main-below n h)
 
 -- there is one last coupler
 last-one : (s t : ℕ) (v w : Way) → LastOf s t v → LastOf s t w → v ≡ w
 last-one s t v w (no-coupler e x) (no-coupler f y) = x ∙ sym y
 last-one s t v w (no-coupler e x) (leads-up k hk a f y) = absurd (omega (arith, on-below k s a, main-below k hk))
-last-one s t v w (no-coupler e x) (leads-down ht b y) = none (on-self s) (subst (λ (u : ℕ). isOn u (mainSides s) ≡ false) (sym e) b)
+last-one s t v w (no-coupler e x) (leads-down ht b y) = none (on-self s) (subst (λ (u : ℕ). isAmong u (mainSides s) ≡ false) (sym e) b)
 last-one s t v w (leads-up n hn c e x) (no-coupler f y) = absurd (omega (arith, on-below n s c, main-below n hn))
 last-one s t v w (leads-up n hn c e x) (leads-up k hk a f y) = x ∙ ap over (above-one s n k hn hk (sym e ∙ f) c a) ∙ sym y
-last-one s t v w (leads-up n hn c e x) (leads-down ht b y) = none (on-main n s c) (subst (λ (u : ℕ). isOn u (mainSides s) ≡ false) e b)
-last-one s t v w (leads-down ht b x) (no-coupler f y) = none (on-self s) (subst (λ (u : ℕ). isOn u (mainSides s) ≡ false) (sym f) b)
-last-one s t v w (leads-down ht b x) (leads-up k hk a f y) = none (on-main k s a) (subst (λ (u : ℕ). isOn u (mainSides s) ≡ false) f b)
+last-one s t v w (leads-up n hn c e x) (leads-down ht b y) = none (on-main n s c) (subst (λ (u : ℕ). isAmong u (mainSides s) ≡ false) e b)
+last-one s t v w (leads-down ht b x) (no-coupler f y) = none (on-self s) (subst (λ (u : ℕ). isAmong u (mainSides s) ≡ false) (sym f) b)
+last-one s t v w (leads-down ht b x) (leads-up k hk a f y) = none (on-main k s a) (subst (λ (u : ℕ). isAmong u (mainSides s) ≡ false) f b)
 last-one s t v w (leads-down ht b x) (leads-down hu c y) = x ∙ sym y
 
 group-asked : (b : Bool) → eqb (cond b 1 0) 1 ≡ b
@@ -203,13 +203,13 @@ module _ (st : Stores) (site : List ℕ) (w : firstOf (siteTests st site) ≡ pa
   arrived (handed-up {n = n} {octets = o} {onward = o′} {way = y} a d x) =
       let b = arrived a in
       let h : n ≡ 0 → ⊥ = nonzero n 1 o o′ x in
-      let q : isOn n (mainSides start) ≡ true = goes-up start n y h (b .last) d in
+      let q : isAmong n (mainSides start) ≡ true = goes-up start n y h (b .last) d in
       let z = step-lists (mainSide n) n n 1 o′ (omega arith) (path-up start n q h) (b .lists) (subst (λ (l : List ℕ). Hands st site n 1 l o′) (b .are) x) in
       record { lists = z .0; are = z .1; last = leads-up n h q refl refl }
   arrived (handed-down {n = n} {octets = o} {onward = o′} {way = y} a d x) =
       let b = arrived a in
       let h : n ≡ 0 → ⊥ = nonzero n 0 o o′ x in
-      let q : isOn n (mainSides start) ≡ false = goes-down start n y h (b .last) d in
+      let q : isAmong n (mainSides start) ≡ false = goes-down start n y h (b .last) d in
       let z = step-lists n (mainSide n) n 0 o′ (omega arith) (path-down start n q) (b .lists) (subst (λ (l : List ℕ). Hands st site n 0 l o′) (b .are) x) in
       record { lists = z .0; are = z .1; last = leads-down h q refl }
 
@@ -220,29 +220,29 @@ module _ (st : Stores) (site : List ℕ) (w : firstOf (siteTests st site) ≡ pa
 
   -- over one coupler more: up from a line above the starting line, down to a line that is not above it
 
-  comes-up : (n : ℕ) → (n ≡ 0 → ⊥) → isOn n (mainSides start) ≡ true → Hands st site n 1 (tp1Octets (onLine n) p) (tp1Octets (onLine (mainSide n)) p) → Comes n
+  comes-up : (n : ℕ) → (n ≡ 0 → ⊥) → isAmong n (mainSides start) ≡ true → Hands st site n 1 (tp1Octets (onLine n) p) (tp1Octets (onLine (mainSide n)) p) → Comes n
       → Comes (mainSide n)
   comes-up n h q x c = record { way = over n; arrives = handed-up (c .arrives) (not-up start n (c .way) h (arrived (c .arrives) .last) q) x }
 
-  comes-down : (n : ℕ) → (n ≡ 0 → ⊥) → isOn n (mainSides start) ≡ false → Hands st site n 0 (tp1Octets (onLine (mainSide n)) p) (tp1Octets (onLine n) p) → Comes (mainSide n)
+  comes-down : (n : ℕ) → (n ≡ 0 → ⊥) → isAmong n (mainSides start) ≡ false → Hands st site n 0 (tp1Octets (onLine (mainSide n)) p) (tp1Octets (onLine n) p) → Comes (mainSide n)
       → Comes n
   comes-down n h q x c = record { way = over n; arrives = handed-down (c .arrives) (not-down start n (c .way) h (arrived (c .arrives) .last) q) x }
 
   climbs : (d n : ℕ) → ((u : ℕ) → distance start u ≡ d → Lists u → Comes u) → distance start (mainSide n) ≡ suc d → Lists (mainSide n) → (n ≡ 0 → ⊥)
-      → isOn n (mainSides start) ≡ true → Comes (mainSide n)
+      → isAmong n (mainSides start) ≡ true → Comes (mainSide n)
   climbs d n ih e l h q =
       let x = lists-step (mainSide n) n n 1 (omega arith) (path-up start n q h) l in
       comes-up n h q (x .1) (ih n (omega (arith, distance-more start (mainSide n) n (crossing 1 n) (path-up start n q h))) (x .0))
 
-  sinks : (d t : ℕ) → ((u : ℕ) → distance start u ≡ d → Lists u → Comes u) → distance start t ≡ suc d → Lists t → isOn t (mainSides start) ≡ false → Comes t
+  sinks : (d t : ℕ) → ((u : ℕ) → distance start u ≡ d → Lists u → Comes u) → distance start t ≡ suc d → Lists t → isAmong t (mainSides start) ≡ false → Comes t
   sinks d t ih e l q =
-      let h : t ≡ 0 → ⊥ = λ z. none (on-zero start) (subst (λ (x : ℕ). isOn x (mainSides start) ≡ false) z q) in
+      let h : t ≡ 0 → ⊥ = λ z. none (on-zero start) (subst (λ (x : ℕ). isAmong x (mainSides start) ≡ false) z q) in
       let x = lists-step t (mainSide t) t 0 (omega arith) (path-down start t q) l in
       comes-down t h q (x .1) (ih (mainSide t) (omega (arith, distance-more start t (mainSide t) (crossing 0 t) (path-down start t q))) (x .0))
 
   comes-from : (d t : ℕ) → ((u : ℕ) → distance start u ≡ d → Lists u → Comes u) → distance start t ≡ suc d → Lists t → Comes t
   comes-from d t ih e l =
-      by-cases (isOn t (mainSides start))
+      by-cases (isAmong t (mainSides start))
       (λ q.
       let a = above-of start t q (λ z. omega (arith, ap (distance start) (sym z), distance-same start)) in
       let f : t ≡ mainSide (a .0) = a .1 .1 .1 in

@@ -10,9 +10,10 @@ use lib.ListN.{length, getD, length-append, List·getD-append}
 use lib.Seq.{getD-append-seam}
 use borrow.Author.Tests.{ltb-true, ltb-false, eqb-true, eqb-false, lt-ltb, le-ltb, eq-eqb}
 use Rattle.site.specs.Stores.{Stores}
+use Rattle.site.specs.WellFormed.{isAmong}
 use Rattle.tracer.proofs.Paths.{by-cases, path-same, distance-zero}
 use Rattle.tracer.proofs.ReachingLaws.{and-false, lasts-none, count-most}
-use Rattle.tracer.specs.Lines.{isOn, Crossing, path, distance}
+use Rattle.tracer.specs.Lines.{Crossing, path, distance}
 use Rattle.tracer.specs.Listing.{Query, letsPass, isListed, onArrival, entry, eachBelow, countBelow, listed, linesListed, isForwardedTo, forwardings}
 
 -- the lines of a list, three octets for each
@@ -34,7 +35,7 @@ lines-append (suc k) (a ∷ []) ys e = absurd (omega (arith, e))
 lines-append (suc k) (a ∷ b ∷ []) ys e = absurd (omega (arith, e))
 lines-append (suc k) (a ∷ b ∷ c ∷ xs) ys e = ap (λ (l : List ℕ). a ∷ l) (lines-append k xs ys (omega (arith, e)))
 
-on-append : (n : ℕ) (xs ys : List ℕ) → isOn n (xs ++ ys) ≡ isOn n xs || isOn n ys
+on-append : (n : ℕ) (xs ys : List ℕ) → isAmong n (xs ++ ys) ≡ isAmong n xs || isAmong n ys
 on-append n [] ys = refl
 on-append n (x ∷ xs) ys = by-cases (eqb x n) (λ e. rw e refl) (λ e. rw e (on-append n xs ys))
 
@@ -142,7 +143,7 @@ module _ (f : Crossing → Bool) (s c : ℕ) where
   pub list-rises : Rising (linesOf (eachBelow (entry f s c) 256))
   list-rises = rw (lines-listed 256) (lines-rise 256 .1)
 
-  on-one : (t n : ℕ) → (isListed f s c t && ltb t n) || isOn t (cond (isListed f s c n) (n ∷ []) []) ≡ isListed f s c t && ltb t (suc n)
+  on-one : (t n : ℕ) → (isListed f s c t && ltb t n) || isAmong t (cond (isListed f s c n) (n ∷ []) []) ≡ isListed f s c t && ltb t (suc n)
   on-one t n =
       by-cases (eqb n t)
       (λ e. rw (eqb-true n t e, le-ltb t t (omega arith), lt-ltb t (suc t) (omega arith))
@@ -152,12 +153,12 @@ module _ (f : Crossing → Bool) (s c : ℕ) where
       let less : ltb t n ≡ ltb t (suc n) = by-cases (ltb t n) (λ l. rw (l, lt-ltb t (suc n) (omega (arith, ltb-true t n l))) refl) (λ l. rw (l, le-ltb t (suc n) (omega (arith, ltb-false t n l, q))) refl) in
       rw less (by-cases (isListed f s c n) (λ h. rw (h, e) (or-no (isListed f s c t && ltb t (suc n)))) (λ h. rw h (or-no (isListed f s c t && ltb t (suc n))))))
 
-  on-lines : (t n : ℕ) → isOn t (linesBelow n) ≡ isListed f s c t && ltb t n
+  on-lines : (t n : ℕ) → isAmong t (linesBelow n) ≡ isListed f s c t && ltb t n
   on-lines t zero = rw (le-ltb t 0 (omega arith), and-false) refl
   on-lines t (suc n) = rw (on-append, on-lines t n) (on-one t n)
 
   -- a line is on the list exactly if it is listed
-  pub list-has : (t : ℕ) → t < 256 → isOn t (linesOf (eachBelow (entry f s c) 256)) ≡ isListed f s c t
+  pub list-has : (t : ℕ) → t < 256 → isAmong t (linesOf (eachBelow (entry f s c) 256)) ≡ isListed f s c t
   list-has t h = rw (lines-listed 256) (on-lines t 256 ∙ rw (lt-ltb t 256 h) (and-yes (isListed f s c t)))
 
 -- the same of the trace's own list
@@ -170,7 +171,7 @@ module _ (st : Stores) (site : List ℕ) (q : Query) where
   unfolding listed
   trace-rises = list-rises (letsPass st site q) (q .start) (q .count)
 
-  pub trace-has : (t : ℕ) → t < 256 → isOn t (linesOf (listed st site q)) ≡ isListed (letsPass st site q) (q .start) (q .count) t
+  pub trace-has : (t : ℕ) → t < 256 → isAmong t (linesOf (listed st site q)) ≡ isListed (letsPass st site q) (q .start) (q .count) t
   unfolding listed
   trace-has = list-has (letsPass st site q) (q .start) (q .count)
 

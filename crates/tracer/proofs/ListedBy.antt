@@ -19,9 +19,10 @@ use Rattle.octets.specs.Room.{over}
 use Rattle.site.specs.Letting.{lets, Marks}
 use Rattle.site.specs.Records.{recordsOf}
 use Rattle.site.specs.Stores.{Stores}
+use Rattle.site.specs.WellFormed.{isAmong}
 use Rattle.tracer.proofs.Paths.{by-cases, main-below, by-mains, on-zero, before-on, before-off}
 use Rattle.tracer.proofs.ReachingLaws.{reach-listed, reach-reached}
-use Rattle.tracer.specs.Lines.{mainSides, isOn, before, Crossing, up, down, upOver, downOver, path, distance}
+use Rattle.tracer.specs.Lines.{mainSides, before, Crossing, up, down, upOver, downOver, path, distance}
 use Rattle.tracer.specs.Listing.{Query, queryOf, letsPass, allPass, isListed, entry, eachBelow, countBelow, listed, linesListed, isForwardedTo, forwardings}
 use Rattle.tracer.specs.Reaching.{reach, marked, Spread, isReached, entryBy}
 use Rattle.tracer.specs.Tracing.{traceTests, DidList, DidTrace}
@@ -54,21 +55,21 @@ all-append f (x ∷ p) q = by-cases (f x) (λ e. rw e (all-append f p q)) (λ e.
 
 -- two tests that agree at every coupler of a line below 256
 module _ (f g : Crossing → Bool) (downs : (n : ℕ) → n < 256 → f (down n) ≡ g (down n)) (ups : (n : ℕ) → n < 256 → f (up n) ≡ g (up n)) where
-  up-same : (others : List ℕ) → isOn 0 others ≡ true → (n : ℕ) → n < 256
+  up-same : (others : List ℕ) → isAmong 0 others ≡ true → (n : ℕ) → n < 256
       → allPass f (upOver (before (mainSides n) others)) ≡ allPass g (upOver (before (mainSides n) others))
   up-same others z =
       by-mains (λ n. n < 256 → allPass f (upOver (before (mainSides n) others)) ≡ allPass g (upOver (before (mainSides n) others)))
       (λ l. rw (before-on 0 others z) refl)
-      (λ n h ih l. by-cases (isOn n others)
+      (λ n h ih l. by-cases (isAmong n others)
       (λ e. rw (before-on n others e) refl)
       (λ e. rw (before-off n others h e, ups n l, ih (omega (arith, main-below n h))) refl))
 
-  down-same : (others : List ℕ) → isOn 0 others ≡ true → (n : ℕ) → n < 256
+  down-same : (others : List ℕ) → isAmong 0 others ≡ true → (n : ℕ) → n < 256
       → allPass f (downOver (before (mainSides n) others)) ≡ allPass g (downOver (before (mainSides n) others))
   down-same others z =
       by-mains (λ n. n < 256 → allPass f (downOver (before (mainSides n) others)) ≡ allPass g (downOver (before (mainSides n) others)))
       (λ l. rw (before-on 0 others z) refl)
-      (λ n h ih l. by-cases (isOn n others)
+      (λ n h ih l. by-cases (isAmong n others)
       (λ e. rw (before-on n others e) refl)
       (λ e. rw (before-off n others h e, all-append f, all-append g, downs n l, ih (omega (arith, main-below n h))) refl))
 

@@ -8,7 +8,8 @@ use native.Mathlib.Omega.{arith}
 use lib.Dec.{eqb}
 use lib.ListN.{length, length-append}
 use borrow.Author.Tests.{eqb-true, eqb-false, eq-eqb, ne-eqb}
-use Rattle.tracer.specs.Lines.{mainSide, depth, mainSides, isOn, before, up, down, upOver, downOver, path, distance}
+use Rattle.site.specs.WellFormed.{isAmong}
+use Rattle.tracer.specs.Lines.{mainSide, depth, mainSides, before, up, down, upOver, downOver, path, distance}
 use Rattle.tracer.specs.Reaching.{climbing}
 
 pub by-cases : {P : Type 0} (b : Bool) → (b ≡ true → P) → (b ≡ false → P) → P
@@ -102,54 +103,54 @@ or-cases true b e f g = f refl
 or-cases false b e f g = g e
 
 -- the line itself is the first
-pub on-self : (n : ℕ) → isOn n (mainSides n) ≡ true
+pub on-self : (n : ℕ) → isAmong n (mainSides n) ≡ true
 on-self n =
     by-cases (eqb n 0)
     (λ q. rw (eqb-true n 0 q, mains-zero) refl)
     (λ q. rw (mains-cons n (eqb-false n 0 q)) (or-true (eqb n n) _ (eq-eqb n n refl)))
 
-pub on-zero : (n : ℕ) → isOn 0 (mainSides n) ≡ true
-on-zero = by-mains (λ n. isOn 0 (mainSides n) ≡ true) (rw mains-zero refl) (λ n h ih. rw (mains-cons n h) (or-right (eqb n 0) _ ih))
+pub on-zero : (n : ℕ) → isAmong 0 (mainSides n) ≡ true
+on-zero = by-mains (λ n. isAmong 0 (mainSides n) ≡ true) (rw mains-zero refl) (λ n h ih. rw (mains-cons n h) (or-right (eqb n 0) _ ih))
 
 -- nothing on it is greater
-pub on-below : (m n : ℕ) → isOn m (mainSides n) ≡ true → m ≤ n
+pub on-below : (m n : ℕ) → isAmong m (mainSides n) ≡ true → m ≤ n
 on-below m =
-    by-mains (λ n. isOn m (mainSides n) ≡ true → m ≤ n)
+    by-mains (λ n. isAmong m (mainSides n) ≡ true → m ≤ n)
     (λ e. or-cases (eqb 0 m) false (rw mains-zero at e) (λ q. omega (arith, eqb-true 0 m q)) (λ q. never (sym q)))
-    (λ n h ih e. or-cases (eqb n m) (isOn m (mainSides (mainSide n))) (rw (mains-cons n h) at e) (λ q. omega (arith, eqb-true n m q)) (λ q. omega (arith, ih q, main-below n h)))
+    (λ n h ih e. or-cases (eqb n m) (isAmong m (mainSides (mainSide n))) (rw (mains-cons n h) at e) (λ q. omega (arith, eqb-true n m q)) (λ q. omega (arith, ih q, main-below n h)))
 
 -- a line that is not the first stands on the way from the main side
-pub on-next : (m n : ℕ) → (n ≡ m → ⊥) → isOn m (mainSides n) ≡ true → (n ≡ 0 → ⊥) × (isOn m (mainSides (mainSide n)) ≡ true)
+pub on-next : (m n : ℕ) → (n ≡ m → ⊥) → isAmong m (mainSides n) ≡ true → (n ≡ 0 → ⊥) × (isAmong m (mainSides (mainSide n)) ≡ true)
 on-next m n d e =
     let h : n ≡ 0 → ⊥ = λ z. d (omega (arith, on-below m n e)) in
-    (h, or-cases (eqb n m) (isOn m (mainSides (mainSide n))) (rw (mains-cons n h) at e) (λ q. absurd (d (eqb-true n m q))) (λ q. q))
+    (h, or-cases (eqb n m) (isAmong m (mainSides (mainSide n))) (rw (mains-cons n h) at e) (λ q. absurd (d (eqb-true n m q))) (λ q. q))
 
 -- with a line its main side
-pub on-main : (m n : ℕ) → isOn m (mainSides n) ≡ true → isOn (mainSide m) (mainSides n) ≡ true
+pub on-main : (m n : ℕ) → isAmong m (mainSides n) ≡ true → isAmong (mainSide m) (mainSides n) ≡ true
 on-main m =
-    by-mains (λ n. isOn m (mainSides n) ≡ true → isOn (mainSide m) (mainSides n) ≡ true)
+    by-mains (λ n. isAmong m (mainSides n) ≡ true → isAmong (mainSide m) (mainSides n) ≡ true)
     (λ e. rw (main-zero (omega (arith, on-below m 0 e))) (on-zero 0))
-    (λ n h ih e. rw (mains-cons n h) (or-right (eqb n (mainSide m)) _ (or-cases (eqb n m) (isOn m (mainSides (mainSide n))) (rw (mains-cons n h) at e) (λ q. rw (eqb-true n m q) (on-self (mainSide m))) ih)))
+    (λ n h ih e. rw (mains-cons n h) (or-right (eqb n (mainSide m)) _ (or-cases (eqb n m) (isAmong m (mainSides (mainSide n))) (rw (mains-cons n h) at e) (λ q. rw (eqb-true n m q) (on-self (mainSide m))) ih)))
   where
     main-zero : m ≡ 0 → mainSide m ≡ 0
     main-zero z = flat-main m (rw z refl)
 
 -- the part before the first line in common
 
-pub before-on : (n : ℕ) (others : List ℕ) → isOn n others ≡ true → before (mainSides n) others ≡ []
+pub before-on : (n : ℕ) (others : List ℕ) → isAmong n others ≡ true → before (mainSides n) others ≡ []
 before-on n others e =
     by-cases (eqb n 0)
-    (λ q. let z : isOn 0 others ≡ true = rw (eqb-true n 0 q) at e in rw (eqb-true n 0 q, mains-zero, z) refl)
+    (λ q. let z : isAmong 0 others ≡ true = rw (eqb-true n 0 q) at e in rw (eqb-true n 0 q, mains-zero, z) refl)
     (λ q. rw (mains-cons n (eqb-false n 0 q), e) refl)
 
-pub before-off : (n : ℕ) (others : List ℕ) → (n ≡ 0 → ⊥) → isOn n others ≡ false → before (mainSides n) others ≡ n ∷ before (mainSides (mainSide n)) others
+pub before-off : (n : ℕ) (others : List ℕ) → (n ≡ 0 → ⊥) → isAmong n others ≡ false → before (mainSides n) others ≡ n ∷ before (mainSides (mainSide n)) others
 before-off n others h e = rw (mains-cons n h, e) refl
 
 -- a line that none of them is may be left out
-before-skip : (ns : List ℕ) (t : ℕ) (others : List ℕ) → isOn t ns ≡ false → before ns (t ∷ others) ≡ before ns others
+before-skip : (ns : List ℕ) (t : ℕ) (others : List ℕ) → isAmong t ns ≡ false → before ns (t ∷ others) ≡ before ns others
 before-skip [] t others e = refl
 before-skip (n ∷ ns) t others e =
-    let x = or-false (eqb n t) (isOn t ns) e in
+    let x = or-false (eqb n t) (isAmong t ns) e in
     rw (ne-eqb t n (λ z. eqb-false n t (x .0) (sym z)), before-skip ns t others (x .1)) refl
 
 pub path-same : (s : ℕ) → path s s ≡ []
@@ -157,41 +158,41 @@ unfolding path
 path-same s = rw (before-on s (mainSides s) (on-self s)) refl
 
 -- up to a line above, no other line of that one's main sides comes first
-before-top : (t s : ℕ) → isOn t (mainSides s) ≡ true → before (mainSides s) (mainSides t) ≡ before (mainSides s) (t ∷ [])
+before-top : (t s : ℕ) → isAmong t (mainSides s) ≡ true → before (mainSides s) (mainSides t) ≡ before (mainSides s) (t ∷ [])
 before-top t =
-    by-mains (λ s. isOn t (mainSides s) ≡ true → before (mainSides s) (mainSides t) ≡ before (mainSides s) (t ∷ []))
+    by-mains (λ s. isAmong t (mainSides s) ≡ true → before (mainSides s) (mainSides t) ≡ before (mainSides s) (t ∷ []))
     (λ e. top 0 (omega (arith, on-below t 0 e)))
     (λ s h ih e. by-cases (eqb s t) (λ q. top s (eqb-true s t q)) (λ q. climb s h ih (eqb-false s t q) e))
   where
     top : (s : ℕ) → s ≡ t → before (mainSides s) (mainSides t) ≡ before (mainSides s) (t ∷ [])
     top s z = rw (z, before-on t (mainSides t) (on-self t), before-on t (t ∷ []) (or-true (eqb t t) false (eq-eqb t t refl))) refl
 
-    climb : (s : ℕ) → (s ≡ 0 → ⊥) → (isOn t (mainSides (mainSide s)) ≡ true → before (mainSides (mainSide s)) (mainSides t) ≡ before (mainSides (mainSide s)) (t ∷ []))
-        → (s ≡ t → ⊥) → isOn t (mainSides s) ≡ true → before (mainSides s) (mainSides t) ≡ before (mainSides s) (t ∷ [])
+    climb : (s : ℕ) → (s ≡ 0 → ⊥) → (isAmong t (mainSides (mainSide s)) ≡ true → before (mainSides (mainSide s)) (mainSides t) ≡ before (mainSides (mainSide s)) (t ∷ []))
+        → (s ≡ t → ⊥) → isAmong t (mainSides s) ≡ true → before (mainSides s) (mainSides t) ≡ before (mainSides s) (t ∷ [])
     climb s h ih d e =
         let u = on-next t s d e .1 in
-        let off : isOn s (mainSides t) ≡ false = by-cases (isOn s (mainSides t)) (λ q. absurd (omega (arith, on-below s t q, on-below t (mainSide s) u, main-below s h))) (λ q. q) in
-        let one : isOn s (t ∷ []) ≡ false = rw (ne-eqb t s (λ z. d (sym z))) refl in
+        let off : isAmong s (mainSides t) ≡ false = by-cases (isAmong s (mainSides t)) (λ q. absurd (omega (arith, on-below s t q, on-below t (mainSide s) u, main-below s h))) (λ q. q) in
+        let one : isAmong s (t ∷ []) ≡ false = rw (ne-eqb t s (λ z. d (sym z))) refl in
         before-off s (mainSides t) h off ∙ ap (λ (l : List ℕ). s ∷ l) (ih u) ∙ sym (before-off s (t ∷ []) h one)
 
 append-none : {A : Type 0} (l : List A) → l ++ [] ≡ l
 append-none [] = refl
 append-none (x ∷ l) = ap (λ m. x ∷ m) (append-none l)
 
-pub path-climb : (s t : ℕ) → isOn t (mainSides s) ≡ true → path s t ≡ climbing s t
+pub path-climb : (s t : ℕ) → isAmong t (mainSides s) ≡ true → path s t ≡ climbing s t
 unfolding path
 path-climb s t e = rw (before-on t (mainSides s) e, before-top t s e) (append-none (climbing s t))
 
-pub path-down : (s t : ℕ) → isOn t (mainSides s) ≡ false → path s t ≡ path s (mainSide t) ++ (down t ∷ [])
+pub path-down : (s t : ℕ) → isAmong t (mainSides s) ≡ false → path s t ≡ path s (mainSide t) ++ (down t ∷ [])
 unfolding path
 path-down s t e =
     let h : t ≡ 0 → ⊥ = λ z. never (sym (on-zero s) ∙ rw z at e) in
     rw (before-off t (mainSides s) h e, mains-cons t h, before-skip (mainSides s) t (mainSides (mainSide t)) e)
     (sym (append-assoc (upOver (before (mainSides s) (mainSides (mainSide t)))) (downOver (before (mainSides (mainSide t)) (mainSides s))) (down t ∷ [])))
 
-climb-more : (n s : ℕ) → (n ≡ 0 → ⊥) → isOn n (mainSides s) ≡ true → climbing s (mainSide n) ≡ climbing s n ++ (up n ∷ [])
+climb-more : (n s : ℕ) → (n ≡ 0 → ⊥) → isAmong n (mainSides s) ≡ true → climbing s (mainSide n) ≡ climbing s n ++ (up n ∷ [])
 climb-more n s k =
-    by-mains (λ s. isOn n (mainSides s) ≡ true → climbing s (mainSide n) ≡ climbing s n ++ (up n ∷ []))
+    by-mains (λ s. isAmong n (mainSides s) ≡ true → climbing s (mainSide n) ≡ climbing s n ++ (up n ∷ []))
     (λ e. absurd (k (omega (arith, on-below n 0 e))))
     (λ s h ih e. by-cases (eqb s n) (λ q. rw (eqb-true s n q) last) (λ q. more s h ih (eqb-false s n q) e))
     s
@@ -205,23 +206,23 @@ climb-more n s k =
     last : climbing n (mainSide n) ≡ climbing n n ++ (up n ∷ [])
     last = apart (mainSide n) n (λ z. omega (arith, main-below n k)) k ∙ rw (alone n, alone (mainSide n)) refl
 
-    more : (s : ℕ) → (s ≡ 0 → ⊥) → (isOn n (mainSides (mainSide s)) ≡ true → climbing (mainSide s) (mainSide n) ≡ climbing (mainSide s) n ++ (up n ∷ []))
-        → (s ≡ n → ⊥) → isOn n (mainSides s) ≡ true → climbing s (mainSide n) ≡ climbing s n ++ (up n ∷ [])
+    more : (s : ℕ) → (s ≡ 0 → ⊥) → (isAmong n (mainSides (mainSide s)) ≡ true → climbing (mainSide s) (mainSide n) ≡ climbing (mainSide s) n ++ (up n ∷ []))
+        → (s ≡ n → ⊥) → isAmong n (mainSides s) ≡ true → climbing s (mainSide n) ≡ climbing s n ++ (up n ∷ [])
     more s h ih d e =
         let u = on-next n s d e .1 in
         apart (mainSide n) s (λ z. omega (arith, main-below n k, on-below n (mainSide s) u, main-below s h)) h
         ∙ rw (ih u, apart n s (λ z. d (sym z)) h) refl
 
-pub path-up : (s n : ℕ) → isOn n (mainSides s) ≡ true → (n ≡ 0 → ⊥) → path s (mainSide n) ≡ path s n ++ (up n ∷ [])
+pub path-up : (s n : ℕ) → isAmong n (mainSides s) ≡ true → (n ≡ 0 → ⊥) → path s (mainSide n) ≡ path s n ++ (up n ∷ [])
 path-up s n e h = rw (path-climb s n e, path-climb s (mainSide n) (on-main n s e)) (climb-more n s h e)
 
 -- each half has at most as many couplers as its line lies deep
 
-before-depth : (others : List ℕ) → isOn 0 others ≡ true → (n : ℕ) → length (before (mainSides n) others) ≤ depth n
+before-depth : (others : List ℕ) → isAmong 0 others ≡ true → (n : ℕ) → length (before (mainSides n) others) ≤ depth n
 before-depth others z =
     by-mains (λ n. length (before (mainSides n) others) ≤ depth n)
     (rw (before-on 0 others z) (omega arith))
-    (λ n h ih. by-cases (isOn n others) (λ q. rw (before-on n others q) (omega arith)) (λ q. rw (before-off n others h q) (omega (arith, ih, depth-main n h))))
+    (λ n h ih. by-cases (isAmong n others) (λ q. rw (before-on n others q) (omega arith)) (λ q. rw (before-off n others h q) (omega (arith, ih, depth-main n h))))
 
 length-up : (ns : List ℕ) → length (upOver ns) ≡ length ns
 length-up [] = refl
@@ -240,9 +241,9 @@ pub distance-four : (s t : ℕ) → distance s t ≤ 4
 distance-four s t =
     omega (arith, distance-halves s t, before-depth (mainSides t) (on-zero t) s, before-depth (mainSides s) (on-zero s) t, depth-two s, depth-two t)
 
-none-before : (n : ℕ) (others : List ℕ) → isOn 0 others ≡ true → length (before (mainSides n) others) ≡ 0 → isOn n others ≡ true
+none-before : (n : ℕ) (others : List ℕ) → isAmong 0 others ≡ true → length (before (mainSides n) others) ≡ 0 → isAmong n others ≡ true
 none-before n others z e =
-    by-cases (isOn n others) (λ q. q)
+    by-cases (isAmong n others) (λ q. q)
     (λ q.
     let h : n ≡ 0 → ⊥ = λ w. never (sym z ∙ rw w at q) in
     absurd (omega (arith, ap length (before-off n others h q))))
@@ -250,6 +251,6 @@ none-before n others z e =
 -- the starting line alone has an empty path
 pub distance-zero : (s t : ℕ) → distance s t ≡ 0 → s ≡ t
 distance-zero s t e =
-    let a : isOn s (mainSides t) ≡ true = none-before s (mainSides t) (on-zero t) (omega (arith, distance-halves s t)) in
-    let b : isOn t (mainSides s) ≡ true = none-before t (mainSides s) (on-zero s) (omega (arith, distance-halves s t)) in
+    let a : isAmong s (mainSides t) ≡ true = none-before s (mainSides t) (on-zero t) (omega (arith, distance-halves s t)) in
+    let b : isAmong t (mainSides s) ≡ true = none-before t (mainSides s) (on-zero s) (omega (arith, distance-halves s t)) in
     omega (arith, on-below s t a, on-below t s b)

@@ -11,8 +11,9 @@ use lib.Dec.{ltb, eqb, leb·suc-suc}
 use lib.ListN.{length, getD, set, length-set, replicate}
 use lib.Seq.{getD-set-same, getD-set-other}
 use borrow.Author.Tests.{leb-false, eqb-true, eqb-false, lt-ltb, le-leb, lt-leb, eq-eqb, ne-eqb}
+use Rattle.site.specs.WellFormed.{isAmong}
 use Rattle.tracer.proofs.Paths.{by-cases, never, main-below, depth-main, mains-zero, mains-cons, on-self, on-zero, on-next, before-on, before-off, path-climb, path-down, distance-four}
-use Rattle.tracer.specs.Lines.{mainSide, depth, mainSides, isOn, before, Crossing, upOver, path, distance}
+use Rattle.tracer.specs.Lines.{mainSide, depth, mainSides, before, Crossing, upOver, path, distance}
 use Rattle.tracer.specs.Listing.{allPass, lasts, isListed, countBelow, isForwardedTo}
 use Rattle.tracer.specs.Reaching.{handed, along, reach, marked, climbing, reachBy, Spread}
 
@@ -90,7 +91,7 @@ unfolding marked
 climb-marked d u c l [] = refl
 climb-marked d u c l (n ∷ ns) = climb-marked d u c (handed c l (getD u n false)) ns
 
-pub reach-climbed : (d u : List Bool) (lines : List ℕ) (s c t : ℕ) {r : ℕ} → isOn t (mainSides s) ≡ true → r ≡ along (marked u u) c 1 (climbing s t)
+pub reach-climbed : (d u : List Bool) (lines : List ℕ) (s c t : ℕ) {r : ℕ} → isAmong t (mainSides s) ≡ true → r ≡ along (marked u u) c 1 (climbing s t)
     → r ≡ reachBy d u lines s c t
 unfolding reachBy
 reach-climbed d u lines s c t e q = rw e (q ∙ climb-marked d u c 1 (before (mainSides s) (t ∷ [])))
@@ -100,7 +101,7 @@ pub reach-by : (d u : List Bool) (lines : List ℕ) (s c t : ℕ) → ((n : ℕ)
     → reachBy d u lines s c t ≡ reach (marked d u) s c t
 unfolding reachBy reach marked
 reach-by d u lines s c t h =
-    by-cases (isOn t (mainSides s))
+    by-cases (isAmong t (mainSides s))
     (λ e. rw (e, path-climb s t e) refl)
     (λ e.
     let z : t ≡ 0 → ⊥ = λ z. never (sym (on-zero s) ∙ rw z at e) in
@@ -111,14 +112,14 @@ less-deep {n} h e = omega (arith, ap depth e, depth-main n h)
 
 -- whether a line stands above another, from that one up
 module _ {line other : ℕ} where
-  pub above-self : other ≡ line → true ≡ isOn line (mainSides other)
+  pub above-self : other ≡ line → true ≡ isAmong line (mainSides other)
   above-self e = rw e (sym (on-self line))
 
-  pub above-none : (other ≡ line → ⊥) → other ≡ 0 → false ≡ isOn line (mainSides other)
+  pub above-none : (other ≡ line → ⊥) → other ≡ 0 → false ≡ isAmong line (mainSides other)
   above-none d z = rw (z, mains-zero, ne-eqb 0 line (λ e. d (z ∙ e))) refl
 
-  pub above-more : {main : ℕ} {r : Bool} → (other ≡ line → ⊥) → (other ≡ 0 → ⊥) → main ≡ mainSide other → r ≡ isOn line (mainSides main)
-      → r ≡ isOn line (mainSides other)
+  pub above-more : {main : ℕ} {r : Bool} → (other ≡ line → ⊥) → (other ≡ 0 → ⊥) → main ≡ mainSide other → r ≡ isAmong line (mainSides main)
+      → r ≡ isAmong line (mainSides other)
   above-more d z e k = rw (mains-cons other z, ne-eqb other line d, ← e) k
 
 -- the way up, coupler after coupler
@@ -126,11 +127,11 @@ module _ {from top : ℕ} where
   pub climb-none : from ≡ top → climbing from top ≡ []
   climb-none e = rw (e, before-on top (top ∷ []) (rw (eq-eqb top top refl) refl)) refl
 
-  module _ (d : from ≡ top → ⊥) (e : isOn top (mainSides from) ≡ true) {main : ℕ} (em : main ≡ mainSide from) where
+  module _ (d : from ≡ top → ⊥) (e : isAmong top (mainSides from) ≡ true) {main : ℕ} (em : main ≡ mainSide from) where
     pub climb-less : depth main < depth from
     climb-less = less-deep (on-next top from d e .0) em
 
-    pub climb-on : isOn top (mainSides main) ≡ true
+    pub climb-on : isAmong top (mainSides main) ≡ true
     climb-on = rw em (on-next top from d e .1)
 
     pub climb-more : (u : List Bool) (c l : ℕ) {l′ r : ℕ} → l′ ≡ handed c l (getD u from false) → r ≡ along (marked u u) c l′ (climbing main top)

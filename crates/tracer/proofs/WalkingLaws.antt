@@ -15,8 +15,9 @@ use Rattle.frame.specs.declared.Refusal.{Refusal}
 use Rattle.site.specs.Letting.{passageAt}
 use Rattle.site.specs.Records.{recordsOf}
 use Rattle.site.specs.Stores.{Stores}
+use Rattle.site.specs.WellFormed.{isAmong}
 use Rattle.tracer.proofs.Paths.{on-zero, before-on, before-off}
-use Rattle.tracer.specs.Lines.{mainSide, mainSides, isOn, before, Crossing, up, down, upOver, downOver, path}
+use Rattle.tracer.specs.Lines.{mainSide, mainSides, before, Crossing, up, down, upOver, downOver, path}
 use Rattle.tracer.specs.Listing.{queryOf}
 use Rattle.tracer.specs.Tracing.{traceTests}
 use Rattle.tracer.specs.Why.{handedOn, walked, whyBy, whyOf, whyTests, answerWhy}
@@ -27,7 +28,7 @@ use Rattle.coupler.specs.declared.Judged.the-variants.{Fine, Refused as NotFine
 use Rattle.tracer.specs.declared.Explanation.the-variants.{Reached, NotReached, Refused as Unexplained}
 
 -- a line that is not on the way to 00h is not 00h
-pub not-zero : (n m : ℕ) → isOn n (mainSides m) ≡ false → n ≡ 0 → ⊥
+pub not-zero : (n m : ℕ) → isAmong n (mainSides m) ≡ false → n ≡ 0 → ⊥
 not-zero n m e z =
     let f : true ≡ false = sym (on-zero m) ∙ (rw z at e) in
     let y : _≡_ {A = ℕ} 0 1 = cc in
@@ -49,10 +50,10 @@ module _ (st : Stores) (site : List ℕ) (group : Bool) (destination : ℕ) wher
   walked-append w (x ∷ xs) ys = walked-append (handedOn st site group destination w x) xs ys
 
   -- up to the first line in common, and down from it: a line that the other's main sides have too ends the way, any other is one coupler
-  pub up-joined : (w : Walk) (from to : ℕ) {b : Bool} → b ≡ isOn from (mainSides to) → b ≡ true → w ≡ walked st site group destination w (upOver (before (mainSides from) (mainSides to)))
+  pub up-joined : (w : Walk) (from to : ℕ) {b : Bool} → b ≡ isAmong from (mainSides to) → b ≡ true → w ≡ walked st site group destination w (upOver (before (mainSides from) (mainSides to)))
   up-joined w from to e t = rw (before-on from (mainSides to) (sym e ∙ t)) refl
 
-  pub up-more : (w : Walk) {next r : Walk} {main : ℕ} (from to : ℕ) {b : Bool} → b ≡ isOn from (mainSides to) → b ≡ false → next ≡ handedOn st site group destination w (up from) → main ≡ mainSide from
+  pub up-more : (w : Walk) {next r : Walk} {main : ℕ} (from to : ℕ) {b : Bool} → b ≡ isAmong from (mainSides to) → b ≡ false → next ≡ handedOn st site group destination w (up from) → main ≡ mainSide from
       → r ≡ walked st site group destination next (upOver (before (mainSides main) (mainSides to))) → r ≡ walked st site group destination w (upOver (before (mainSides from) (mainSides to)))
   up-more w {main = main} from to e f n m r =
       r
@@ -60,10 +61,10 @@ module _ (st : Stores) (site : List ℕ) (group : Bool) (destination : ℕ) wher
       ∙ ap (λ (k : ℕ). walked st site group destination (handedOn st site group destination w (up from)) (upOver (before (mainSides k) (mainSides to)))) m
       ∙ ap (λ (l : List ℕ). walked st site group destination w (upOver l)) (sym (before-off from (mainSides to) (not-zero from to (sym e ∙ f)) (sym e ∙ f)))
 
-  pub down-joined : (w : Walk) (from to : ℕ) {b : Bool} → b ≡ isOn to (mainSides from) → b ≡ true → w ≡ walked st site group destination w (downOver (before (mainSides to) (mainSides from)))
+  pub down-joined : (w : Walk) (from to : ℕ) {b : Bool} → b ≡ isAmong to (mainSides from) → b ≡ true → w ≡ walked st site group destination w (downOver (before (mainSides to) (mainSides from)))
   down-joined w from to e t = rw (before-on to (mainSides from) (sym e ∙ t)) refl
 
-  pub down-more : (w : Walk) {there r : Walk} {main : ℕ} (from to : ℕ) {b : Bool} → b ≡ isOn to (mainSides from) → b ≡ false → main ≡ mainSide to
+  pub down-more : (w : Walk) {there r : Walk} {main : ℕ} (from to : ℕ) {b : Bool} → b ≡ isAmong to (mainSides from) → b ≡ false → main ≡ mainSide to
       → there ≡ walked st site group destination w (downOver (before (mainSides main) (mainSides from))) → r ≡ handedOn st site group destination there (down to)
       → r ≡ walked st site group destination w (downOver (before (mainSides to) (mainSides from)))
   down-more w {main = main} from to e f m t r =

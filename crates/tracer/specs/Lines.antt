@@ -1,10 +1,11 @@
 -- Document 01: "The path between two lines follows main sides: the line of n, then its main side, and so on to 00h, likewise from the other,
 -- joined at the first line in common. Distance is the number of couplers on it".
 use Prim.Native.Nat.{ℕ, zero, suc, _-_, _%_}
-use mathlib.Core.Bool.{Bool, false, cond, _||_}
+use mathlib.Core.Bool.{cond}
 use mathlib.Core.List.{List, [], _∷_, _++_}
 use lib.Dec.{eqb}
 use lib.ListN.{length}
+use Rattle.site.specs.WellFormed.{isAmong}
 
 -- "Its main side is n with the low four bits cleared if those are not zero, else 00h."
 unfoldable pub mainSide : ℕ → ℕ
@@ -22,14 +23,10 @@ mainSidesBy (suc k) n = n ∷ mainSidesBy k (mainSide n)
 unfoldable pub mainSides : ℕ → List ℕ
 mainSides n = mainSidesBy (depth n) n
 
-abbrev pub isOn : ℕ → List ℕ → Bool
-isOn n [] = false
-isOn n (m ∷ ms) = eqb m n || isOn n ms
-
 -- "joined at the first line in common": the lines before it
 abbrev pub before : List ℕ → List ℕ → List ℕ
 before [] others = []
-before (n ∷ ns) others = cond (isOn n others) [] (n ∷ before ns others)
+before (n ∷ ns) others = cond (isAmong n others) [] (n ∷ before ns others)
 
 -- a coupler crossed: its line, and the direction of travel (0 main to sub, 1 sub to main)
 pub record Crossing : Type 0 where

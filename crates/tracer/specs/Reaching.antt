@@ -1,3 +1,4 @@
+-- How the tracer works its list out: for the contracts of its private functions. No public contract rests on these definitions.
 -- A telegram on its way: how many lines it has been put on, the starting line being the first; 0 where it does not come.
 use Prim.Native.Nat.{ℕ, suc, _-_, _<_}
 use mathlib.Core.Bool.{Bool, false, cond, _&&_}
@@ -5,8 +6,8 @@ use mathlib.Core.List.{List, [], _∷_}
 use mathlib.Core.Path.{_≡_}
 use lib.Dec.{ltb, eqb}
 use lib.ListN.{length, getD}
-use Rattle.site.specs.Letting.{passes}
-use Rattle.tracer.specs.Lines.{mainSide, mainSides, isOn, before, Crossing, upOver, path}
+use Rattle.site.specs.WellFormed.{isAmong}
+use Rattle.tracer.specs.Lines.{mainSide, mainSides, before, Crossing, upOver, path}
 use Rattle.tracer.specs.Listing.{lasts, onArrival, countBelow, isForwardedTo}
 
 -- one coupler hands it on if it lets it pass and the count lasts
@@ -32,7 +33,7 @@ climbing start top = upOver (before (mainSides start) (top ∷ []))
 -- a line is reached up that way, or down over its own coupler from its main side
 unfoldable pub reachBy : List Bool → List Bool → List ℕ → ℕ → ℕ → ℕ → ℕ
 reachBy downward upward lines start count line =
-    cond (isOn line (mainSides start))
+    cond (isAmong line (mainSides start))
     (along (marked downward upward) count 1 (climbing start line))
     (handed count (getD lines (mainSide line) 0) (getD downward line false))
 

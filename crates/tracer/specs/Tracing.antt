@@ -24,11 +24,6 @@ traceTests st site q room =
     ∷ ltb room 768 gives SmallRoom
     ∷ siteTests st site
 
--- nothing refused: the list at the front of the room, "octets behind the list stay"
-pub record DidList (st : Stores) (site : List ℕ) (q : Query) (room : List ℕ) (answer : Traced) (room′ : List ℕ) : Type 0 where
-  pub answered : answer ≡ record { number = 0; lines = linesListed st site q; forwardings = forwardings st site q }
-  pub left : room′ ≡ over (listed st site q) room
-
 -- what the call answers and what stands at the front of the room: on a refusal its number and nothing
 abbrev pub tracedBy : Stores → List ℕ → Query → Verdict → Traced
 tracedBy st site q pass = record { number = 0; lines = linesListed st site q; forwardings = forwardings st site q }
@@ -37,6 +32,11 @@ tracedBy st site q (refuse r) = record { number = number r; lines = 0; forwardin
 abbrev pub listBy : Stores → List ℕ → Query → Verdict → List ℕ
 listBy st site q pass = listed st site q
 listBy st site q (refuse r) = []
+
+-- nothing refused: the list at the front of the room, "octets behind the list stay"
+pub record DidList (st : Stores) (site : List ℕ) (q : Query) (room : List ℕ) (answer : Traced) (room′ : List ℕ) : Type 0 where
+  pub answered : answer ≡ tracedBy st site q pass
+  pub left : room′ ≡ over (listBy st site q pass) room
 
 -- "Lent octets behind the list stay."
 pub record DidTrace (st : Stores) (site : List ℕ) (q : Query) (room : List ℕ) (answer : Traced) (room′ : List ℕ) : Type 0 where

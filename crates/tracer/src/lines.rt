@@ -1,11 +1,12 @@
 // The tree of lines: the way from a line to the backbone.
 ghost use mathlib.Core.Path.{_≡_};
-ghost use Rattle.tracer.specs.Lines.{mainSides, isOn};
+ghost use Rattle.site.specs.WellFormed.{isAmong};
+ghost use Rattle.tracer.specs.Lines.{mainSides};
 
 // Whether a line stands among another's main sides, itself included: "the line of n, then its main
 // side, and so on to 00h".
 pub(crate) fn is_above(line: u8, other: u8) -> bool
-    ensures { λ r. ⌜ r ≡ isOn line (mainSides other) ⌝ }
+    ensures { λ r. ⌜ r ≡ isAmong line (mainSides other) ⌝ }
 {
     if other == line {
         return true;

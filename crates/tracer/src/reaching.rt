@@ -3,7 +3,8 @@ ghost use mathlib.Core.Path.{_≡_};
 ghost use mathlib.Core.Bool.{true};
 ghost use Prim.Native.Nat.{_+_, _<_, _≤_};
 ghost use lib.ListN.{getD};
-ghost use Rattle.tracer.specs.Lines.{mainSide, mainSides, depth, isOn};
+ghost use Rattle.site.specs.WellFormed.{isAmong};
+ghost use Rattle.tracer.specs.Lines.{mainSide, mainSides, depth};
 ghost use Rattle.tracer.specs.Reaching.{handed, along, climbing, marked, reachBy, Spread};
 use crate::Arrivals;
 
@@ -19,7 +20,7 @@ pub(crate) fn hand(count: u8, lines: u8, passes: bool) -> u8
 
 // Up from a line to one of its main sides.
 fn climb(up: &[bool; 256], count: u8, from: u8, top: u8, lines: u8) -> u8
-    requires { ⌜ (isOn top (mainSides from) ≡ true) × (lines + depth from < 255) ⌝ }
+    requires { ⌜ (isAmong top (mainSides from) ≡ true) × (lines + depth from < 255) ⌝ }
     ensures { λ r. ⌜ r ≡ along (marked (now (up .entry)) (now (up .entry))) count lines (climbing from top) ⌝ }
 {
     if from == top {
