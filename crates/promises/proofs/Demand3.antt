@@ -82,7 +82,7 @@ as-couplers-do = list-is-journey
 pub reached-exactly : (st : Stores) (site : List ℕ) (q : Query) → q .count ≤ 7 → (line : ℕ) → whyOf st site q line ≡ Reached ↔ (isListed (letsPass st site q) (q .start) (q .count) line ≡ true)
 reached-exactly = reached-iff
 
--- .. and otherwise the first coupler on the path that does not hand the telegram on, for the reason given
+-- .. and otherwise the first coupler on the path that does not hand the telegram on, for the reason that it has with the count on arrival
 pub stopped-there : (st : Stores) (site : List ℕ) (q : Query) (c : q .count ≤ 7) (line : ℕ) (stop : Stop) → whyOf st site q line ≡ NotReached stop
-    → StoppedAt st site q c (path (q .start) line) stop
+    → StoppedAt st site q c 0 (path (q .start) line) stop
 stopped-there = not-reached

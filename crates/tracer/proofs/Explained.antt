@@ -1,12 +1,13 @@
 -- What the explanation says: a line is reached exactly if it is listed; otherwise every coupler before the one named is fitted and lets the
 -- telegram pass, and that one does not hand it on, for the reason given. The walk carries the count, the list the couplers crossed.
-use Prim.Native.Nat.{ℕ, suc, _-_, _≤_}
+use Prim.Native.Nat.{ℕ, suc, _+_, _-_, _≤_}
 use mathlib.Core.Bool.{Bool, true, false, not, _&&_}
 use mathlib.Core.List.{List, [], _∷_, _++_}
 use mathlib.Core.Logic.{_↔_}
 use mathlib.Core.Path.{_≡_, refl, sym, ap, _∙_}
 use native.Mathlib.Omega.{arith}
 use lib.Dec.{ltb, leb, eqb}
+use lib.ListN.{length}
 use borrow.Author.Tests.{leb-true, leb-false, eqb-true, eqb-false, lt-ltb, le-leb, eq-eqb, ne-eqb}
 use Rattle.coupler.specs.Passing.{hopped, doesPass}
 use Rattle.coupler.specs.declared.Passage.{Passage}
@@ -112,58 +113,61 @@ module _ (st : Stores) (site : List ℕ) (q : Query) (m : q .count ≤ 7) where
       let w = walk (Going (q .count)) (path (q .start) line) in
       ((λ e. sym (going-listed line) ∙ reached-going w e), (λ e. going-reached w (going-listed line ∙ e)))
 
-  -- where and why a walk over a path stopped: the couplers before it let the telegram pass, and it comes there with this count
-  pub record StoppedAt (xs : List Crossing) (stop : Stop) : Type 0 where
+  -- where and why a walk stopped that had crossed so many couplers before: those ahead let the telegram pass, and this one does not hand it
+  -- on, for the reason that it has with the count on arrival there
+  pub record StoppedAt (crossed : ℕ) (xs : List Crossing) (stop : Stop) : Type 0 where
     pub ahead : List Crossing
     pub here : Crossing
     pub behind : List Crossing
-    pub count : ℕ
     pub place : xs ≡ ahead ++ (here ∷ behind)
     pub pass : allPass (letsPass st site q) ahead ≡ true
     pub named : (stop .coupler ≡ here .line) × (stop .direction ≡ here .direction)
-    pub reason : stop .reason ≡ passage here count
-    pub stops : doesPass (passage here count) ≡ false
+    pub reason : stop .reason ≡ passage here (onArrival (q .count) (crossed + length ahead))
+    pub stops : doesPass (passage here (onArrival (q .count) (crossed + length ahead))) ≡ false
 
   -- "all couplers before the one it names are fitted and pass, and that one does not, for the reason given"
-  pub stopped-at : (k : ℕ) (xs : List Crossing) (stop : Stop) → walk (Going k) xs ≡ Stopped stop → StoppedAt xs stop
-  stopped-at k [] stop e = let z : _≡_ {A = ℕ} 0 1 = cc in absurd (omega arith)
-  stopped-at k (x ∷ xs) stop e =
+  pub stopped-at : (d : ℕ) (xs : List Crossing) (stop : Stop) → lasts (q .count) d ≡ true → walk (Going (onArrival (q .count) d)) xs ≡ Stopped stop → StoppedAt d xs stop
+  stopped-at d [] stop h e = let z : _≡_ {A = ℕ} 0 1 = cc in absurd (omega arith)
+  stopped-at d (x ∷ xs) stop h e =
+      let k = onArrival (q .count) d in
       by-cases (doesPass (passage x k))
       (λ t.
-      let s = stopped-at (hopped k) xs stop (rw t at e) in
-      let l : letsPass st site q x ≡ true =
-      and-true (letsPass st site q x) (not (eqb k 0)) (sym (passage-lets st (eqb (q .kind) 1) (q .destination) (recordsOf site) (x .direction) (x .line) k) ∙ t) .0 in
+      let a = and-true (letsPass st site q x) (not (eqb k 0)) (sym (passage-lets st (eqb (q .kind) 1) (q .destination) (recordsOf site) (x .direction) (x .line) k) ∙ t) in
+      let l : lasts (q .count) (suc d) ≡ true = sym (left-lasts (q .count) d h) ∙ a .1 in
+      let s = stopped-at (suc d) xs stop l (ap (λ (c : ℕ). walk (Going c) xs) (sym (left-hopped (q .count) d m l)) ∙ (rw t at e)) in
+      let j : suc d + length (s .ahead) ≡ d + suc (length (s .ahead)) = omega arith in
       record {
         ahead = x ∷ s .ahead;
         here = s .here;
         behind = s .behind;
-        count = s .count;
         place = ap (λ (l : List Crossing). x ∷ l) (s .place);
-        pass = rw l (s .pass);
+        pass = ap (λ (b : Bool). b && allPass (letsPass st site q) (s .ahead)) (a .0) ∙ s .pass;
         named = s .named;
-        reason = s .reason;
-        stops = s .stops;
+        reason = s .reason ∙ ap (λ (n : ℕ). passage (s .here) (onArrival (q .count) n)) j;
+        stops = ap (λ (n : ℕ). doesPass (passage (s .here) (onArrival (q .count) n))) (sym j) ∙ s .stops;
       })
       (λ n.
       let f : Stopped (record { coupler = x .line; direction = x .direction; reason = passage x k }) ≡ Stopped stop =
       sym (stopped-stays st site (eqb (q .kind) 1) (q .destination) (record { coupler = x .line; direction = x .direction; reason = passage x k }) xs) ∙ (rw n at e) in
       let g : stop ≡ record { coupler = x .line; direction = x .direction; reason = passage x k } = cc in
+      let j : d ≡ d + 0 = omega arith in
       record {
         ahead = [];
         here = x;
         behind = xs;
-        count = k;
         place = refl;
         pass = refl;
         named = (ap (λ (s : Stop). s .coupler) g, ap (λ (s : Stop). s .direction) g);
-        reason = ap (λ (s : Stop). s .reason) g;
-        stops = n;
+        reason = ap (λ (s : Stop). s .reason) g ∙ ap (λ (c : ℕ). passage x (onArrival (q .count) c)) j;
+        stops = ap (λ (c : ℕ). doesPass (passage x (onArrival (q .count) c))) (sym j) ∙ n;
       })
 
   stop-of : (w : Walk) (stop : Stop) → whyBy w ≡ NotReached stop → w ≡ Stopped stop
   stop-of (Going count) stop e = let z : _≡_ {A = ℕ} 0 1 = cc in absurd (omega arith)
   stop-of (Stopped s) stop e = let h : s ≡ stop = cc in ap Stopped h
 
-  pub not-reached : (line : ℕ) (stop : Stop) → whyOf st site q line ≡ NotReached stop → StoppedAt (path (q .start) line) stop
+  pub not-reached : (line : ℕ) (stop : Stop) → whyOf st site q line ≡ NotReached stop → StoppedAt 0 (path (q .start) line) stop
   unfolding whyOf
-  not-reached line stop e = stopped-at (q .count) (path (q .start) line) stop (stop-of (walk (Going (q .count)) (path (q .start) line)) stop e)
+  not-reached line stop e =
+      stopped-at 0 (path (q .start) line) stop (from-start (q .count) .0)
+      (ap (λ (c : ℕ). walk (Going c) (path (q .start) line)) (from-start (q .count) .1) ∙ stop-of (walk (Going (q .count)) (path (q .start) line)) stop e)

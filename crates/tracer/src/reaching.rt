@@ -61,6 +61,7 @@ pub(crate) fn spread(down: &[bool; 256], up: &[bool; 256], start: u8, count: u8)
     while line < 256 {
         let reached = reach_of(down, up, &lines, start, count, line as u8);
         lines[line] = reached;
+        // It came over a coupler: that one has forwarded it, once.
         if 1 < reached {
             forwardings += 1;
         }
