@@ -12,7 +12,8 @@
  *
  * Numbers. "10h" is hexadecimal. A field of two octets has the high octet first.
  *
- * Refusals. Every answer carries a number: 0 is not a refusal. A refused call has written nothing.
+ * Refusals. Every answer but that of klumdray_check_octet, which is never refused, carries a
+ * number. A refused call has written nothing.
  *
  *    0  not a refusal
  *    1  fewer octets than the frame needs
@@ -257,7 +258,8 @@ enum {
 
 /*
  * Lists the lines of a site that a telegram reaches from its starting line, which is always listed.
- *   start: the starting line, any   kind: 0 individual, 1 group   destination: any
+ *   start: the starting line, any   kind: 0 individual, 1 group
+ *   destination: any; group 0000h is broadcast
  *   count: on the starting line, 0 to 7
  *   site, project, own: the records, the project store and the site's own store, laid out as above
  *   room: at least 768 octets
@@ -403,7 +405,8 @@ static inline size_t klumdray_routing_payload_start(uint64_t answer, size_t n)
     return n - klumdray_payload_length(answer);
 }
 
-/* Where additional information begins, and how many octets it has. */
+/* Where additional information begins in the n octets of an accepted message or datagram, and how
+ * many octets it has. */
 static inline size_t klumdray_cemi_information_start(void)
 {
     return 2u;

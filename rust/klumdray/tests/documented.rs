@@ -130,16 +130,10 @@ fn the_refusals_are_the_headers() {
 #[test]
 fn the_reasons_are_the_headers() {
     use tracer::Reason::*;
-    let reasons = [
-        NotFitted,
-        OwnAddress,
-        Closed,
-        NotBelow,
-        NotAbove,
-        NotInTable,
-        CountUsedUp,
-    ];
-    for (place, reason) in reasons.iter().enumerate() {
+    let of_the_code = [Closed, NotBelow, NotAbove, NotInTable];
+    let before = [NotFitted, OwnAddress].into_iter();
+    let reasons = before.chain(of_the_code).chain([CountUsedUp]);
+    for (place, reason) in reasons.enumerate() {
         let row = format!("\n *                    {}  {reason}\n", place + 1);
         assert!(HEADER.contains(&row), "not in the header: {row}");
     }
