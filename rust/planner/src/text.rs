@@ -1,0 +1,1 @@
+//! A site as a person writes it.
