@@ -9,5 +9,8 @@ pub mod arguments;
 pub mod commands;
 pub mod fault;
 pub mod json;
+pub mod loading;
 pub mod octets;
 pub mod plan;
+pub mod text;
+pub mod tracing;

@@ -30,7 +30,12 @@ pub struct Octets {
 impl Octets {
     /// The site as the library's calls take it.
     pub fn site(&self) -> Site<'_> {
-        self.first(self.records.len() / RECORD)
+        self.first(self.couplers())
+    }
+
+    /// How many couplers there are.
+    pub fn couplers(&self) -> usize {
+        self.records.len() / RECORD
     }
 
     /// The site of the first couplers alone.
