@@ -1,0 +1,16 @@
+//! What stands behind `./klumdray`: it translates texts to octets and answers to texts, and draws.
+//! Whatever decides (reading, passing, tracing, whether a site is well-formed) is asked of the
+//! proved library.
+#![forbid(unsafe_code)]
+#![warn(missing_docs)]
+
+pub mod address;
+pub mod arguments;
+pub mod commands;
+pub mod fault;
+pub mod json;
+pub mod loading;
+pub mod octets;
+pub mod plan;
+pub mod text;
+pub mod tracing;

@@ -1,0 +1,140 @@
+//! A site's file, read, translated and judged.
+
+use crate::address::Line;
+use crate::arguments::fault;
+use crate::fault::Fault;
+use crate::octets::{octets_of, plan_of, Octets};
+use crate::plan::{Class, Coupler, Direction, Plan, Setting};
+use crate::text::{read, SiteText};
+use klumdray::tracer::{why, Query};
+use klumdray::Refusal;
+use std::fs;
+
+/// A well-formed site.
+#[derive(Debug)]
+pub struct Site {
+    /// Its file.
+    pub file: String,
+    /// Its text.
+    pub text: SiteText,
+    /// What the library is given.
+    pub octets: Octets,
+}
+
+/// Why there is no site to ask about.
+#[derive(Debug)]
+pub enum Failure {
+    /// The text cannot be read.
+    Faulty(Vec<Fault>),
+    /// The library refuses the site.
+    Refused(RefusedSite),
+    /// The octets, translated back, are another site.
+    Broken,
+}
+
+/// A refusal, and where in the text it comes from.
+#[derive(Clone, Debug, PartialEq, Eq)]
+pub struct RefusedSite {
+    /// The library's refusal.
+    pub refusal: Refusal,
+    /// The site's file.
+    pub file: String,
+    /// The text's line.
+    pub line: usize,
+    /// What in that line draws the refusal.
+    pub because: String,
+}
+
+/// Reads a site's file, translates it and has the library judge it.
+pub fn load(file: &str) -> Result<Site, Failure> {
+    let unreadable = |error: std::io::Error| {
+        Failure::Faulty(vec![fault(file, "a site's file", &error.to_string())])
+    };
+    let octets = fs::read(file).map_err(unreadable)?;
+    let text = read(file, &octets).map_err(Failure::Faulty)?;
+    let octets = translate(&text.plan).ok_or(Failure::Broken)?;
+    match refused(&octets) {
+        None => Ok(Site {
+            file: file.into(),
+            text,
+            octets,
+        }),
+        Some((refusal, place)) => {
+            let (line, because) = cause(&text, refusal, place);
+            Err(Failure::Refused(RefusedSite {
+                refusal,
+                file: file.into(),
+                line,
+                because,
+            }))
+        }
+    }
+}
+
+/// Translates a site to octets, and these back: without the same site again there are none.
+pub fn translate(plan: &Plan) -> Option<Octets> {
+    let octets = octets_of(plan)?;
+    (plan_of(&octets).as_ref() == Some(plan)).then_some(octets)
+}
+
+/// The library's refusal of a site, and the first coupler with which it is drawn: "record by
+/// record".
+fn refused(octets: &Octets) -> Option<(Refusal, usize)> {
+    let query = Query {
+        start: 0,
+        group: true,
+        destination: 0,
+        count: 0,
+    };
+    let refusal = |couplers: usize| why(&query, &octets.first(couplers), 0).err();
+    let all = octets.couplers();
+    let refusal_of_all = refusal(all)?;
+    let first = (1..=all).find(|couplers| refusal(*couplers).is_some());
+    Some((refusal_of_all, first.unwrap_or(all).saturating_sub(1)))
+}
+
+/// The line of the text that draws a refusal, and why.
+fn cause(text: &SiteText, refusal: Refusal, place: usize) -> (usize, String) {
+    let (Some(coupler), Some(at)) = (text.plan.couplers.get(place), text.couplers.get(place))
+    else {
+        return (1, "the site as a whole".into());
+    };
+    let row = |(direction, class): (Direction, Class)| {
+        let because = format!("{class} {} {direction}", coupler.setting(direction, class));
+        (at.rows[direction as usize], because)
+    };
+    match refusal {
+        Refusal::SETTING if coupler.line == Line(0) => (at.at, "line 0.0 has no coupler".into()),
+        Refusal::SETTING => {
+            let found = filtered(coupler, &[Class::Broadcast]).map(row);
+            let (line, because) = found.unwrap_or((at.at, "its settings".into()));
+            (line, format!("{because}: broadcast is closed or open"))
+        }
+        Refusal::TABLE => {
+            let found = filtered(coupler, &[Class::LowerGroups, Class::UpperGroups]).map(row);
+            let (line, because) = found.unwrap_or((at.at, "its table".into()));
+            (line, format!("{because}, and the coupler names no table"))
+        }
+        _ => {
+            let line = coupler.line;
+            let first = text
+                .plan
+                .couplers
+                .iter()
+                .position(|other| other.line == line);
+            let first = first.map_or(at.at, |first| text.couplers[first].at);
+            (
+                at.at,
+                format!("line {line} has a coupler already, at line {first} of the file"),
+            )
+        }
+    }
+}
+
+fn filtered(coupler: &Coupler, classes: &[Class]) -> Option<(Direction, Class)> {
+    let pairs = Direction::ALL
+        .into_iter()
+        .flat_map(|direction| classes.iter().map(move |class| (direction, *class)));
+    let mut pairs = pairs;
+    pairs.find(|(direction, class)| coupler.setting(*direction, *class) == Setting::Filter)
+}

@@ -1,0 +1,158 @@
+//! A site as the proved library takes it: records and the two stores. Document 01: "A site is 0 to
+//! 255 records of 12 octets: mark 43h 50h, line, four codes main to sub, four codes sub to main,
+//! table number."
+
+use crate::address::{Group, Line};
+use crate::plan::{Coupler, Groups, Plan, Setting, Store, TableAt};
+use klumdray::tracer::Site;
+
+const MARK: [u8; 2] = [0x43, 0x50];
+const RECORD: usize = 12;
+/// Octets of a filter table.
+pub const TABLE: usize = 8192;
+/// Tables that the project store holds; the site's own numbers begin there.
+pub const PROJECT_TABLES: usize = 128;
+/// Tables that the site's own store holds.
+pub const OWN_TABLES: usize = 127;
+const NO_TABLE: u8 = 0xff;
+
+/// The records and the stores of a site.
+#[derive(Clone, Debug, Default, PartialEq, Eq)]
+pub struct Octets {
+    /// A record for each coupler.
+    pub records: Vec<u8>,
+    /// The project store.
+    pub project: Vec<u8>,
+    /// The site's own store.
+    pub own: Vec<u8>,
+}
+
+impl Octets {
+    /// The site as the library's calls take it.
+    pub fn site(&self) -> Site<'_> {
+        self.first(self.couplers())
+    }
+
+    /// How many couplers there are.
+    pub fn couplers(&self) -> usize {
+        self.records.len() / RECORD
+    }
+
+    /// The site of the first couplers alone.
+    pub fn first(&self, couplers: usize) -> Site<'_> {
+        Site {
+            records: &self.records[..couplers * RECORD],
+            project: &self.project,
+            own: &self.own,
+        }
+    }
+}
+
+/// Translates a site to octets.
+///
+/// A plan whose tables have no number, because a store has too many of them or a coupler names one
+/// that is not there, has no octets.
+pub fn octets_of(plan: &Plan) -> Option<Octets> {
+    if plan.project.len() > PROJECT_TABLES || plan.own.len() > OWN_TABLES {
+        return None;
+    }
+    let records: Option<Vec<[u8; RECORD]>> = plan.couplers.iter().map(record_of).collect();
+    Some(Octets {
+        records: records?.concat(),
+        project: plan.project.iter().flat_map(table_of).collect(),
+        own: plan.own.iter().flat_map(table_of).collect(),
+    })
+}
+
+fn record_of(coupler: &Coupler) -> Option<[u8; RECORD]> {
+    let mut record = [0; RECORD];
+    record[..2].copy_from_slice(&MARK);
+    record[2] = coupler.line.0;
+    for (code, setting) in record[3..11]
+        .iter_mut()
+        .zip(coupler.settings.as_flattened())
+    {
+        *code = *setting as u8;
+    }
+    record[11] = match coupler.table {
+        None => NO_TABLE,
+        Some(table) => number_of(table)?,
+    };
+    Some(record)
+}
+
+fn number_of(table: TableAt) -> Option<u8> {
+    let (start, limit) = match table.store {
+        Store::Project => (0, PROJECT_TABLES),
+        Store::Own => (PROJECT_TABLES, OWN_TABLES),
+    };
+    let place = Some(table.place).filter(|place| *place < limit)?;
+    (start + place).try_into().ok()
+}
+
+/// "bit g mod 8 of octet g div 8".
+fn table_of(groups: &Groups) -> Vec<u8> {
+    let mut table = vec![0; TABLE];
+    for (first, last) in groups.ranges() {
+        for group in first.0..=last.0 {
+            table[usize::from(group) / 8] |= 1 << (group % 8);
+        }
+    }
+    table
+}
+
+/// Translates octets back to a site; none where they are no site that words can say, be it for a
+/// mark, a code or a length.
+pub fn plan_of(octets: &Octets) -> Option<Plan> {
+    let records = octets.records.chunks(RECORD);
+    let couplers: Option<Vec<Coupler>> = records.map(coupler_of).collect();
+    Some(Plan {
+        couplers: couplers?,
+        project: tables_of(&octets.project)?,
+        own: tables_of(&octets.own)?,
+    })
+}
+
+fn coupler_of(record: &[u8]) -> Option<Coupler> {
+    if record.len() != RECORD || record[..2] != MARK {
+        return None;
+    }
+    let mut settings = [[Setting::Closed; 4]; 2];
+    for (setting, code) in settings.as_flattened_mut().iter_mut().zip(&record[3..11]) {
+        *setting = *Setting::ALL.get(usize::from(*code))?;
+    }
+    Some(Coupler {
+        line: Line(record[2]),
+        settings,
+        table: table_at(record[11]),
+    })
+}
+
+fn table_at(number: u8) -> Option<TableAt> {
+    let place = usize::from(number);
+    match number {
+        NO_TABLE => None,
+        0..=127 => Some(TableAt {
+            store: Store::Project,
+            place,
+        }),
+        _ => Some(TableAt {
+            store: Store::Own,
+            place: place - PROJECT_TABLES,
+        }),
+    }
+}
+
+fn tables_of(store: &[u8]) -> Option<Vec<Groups>> {
+    let tables = store.chunks_exact(TABLE);
+    if !tables.remainder().is_empty() {
+        return None;
+    }
+    Some(tables.map(groups_of).collect())
+}
+
+fn groups_of(table: &[u8]) -> Groups {
+    let is_listed = |group: &u16| table[usize::from(*group) / 8] >> (group % 8) & 1 == 1;
+    let listed = (0..=u16::MAX).filter(is_listed).map(Group);
+    Groups::new(listed.map(|group| (group, group)).collect())
+}
