@@ -118,7 +118,7 @@ impl fmt::Display for Group {
 }
 
 /// Decimal digits alone, so no sign and no space, up to a greatest value.
-fn number(digits: &str, greatest: u16) -> Option<u16> {
+pub(crate) fn number(digits: &str, greatest: u16) -> Option<u16> {
     if digits.is_empty() || !digits.bytes().all(|digit| digit.is_ascii_digit()) {
         return None;
     }

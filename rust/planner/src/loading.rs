@@ -8,9 +8,9 @@ use crate::plan::{Class, Coupler, Direction, Plan, Setting};
 use crate::text::{read, SiteText};
 use klumdray::tracer::{why, Query};
 use klumdray::Refusal;
-use std::fs;
+use std::{fmt, fs};
 
-/// A well-formed site.
+/// A site that came back the same from its octets; well-formed if [`load`] gave it.
 #[derive(Debug)]
 pub struct Site {
     /// Its file.
@@ -19,6 +19,18 @@ pub struct Site {
     pub text: SiteText,
     /// What the library is given.
     pub octets: Octets,
+}
+
+impl Site {
+    /// What a line is called, if it has a name.
+    pub fn label(&self, line: Line) -> Option<&str> {
+        if line == Line(0) {
+            return Some("backbone");
+        }
+        let couplers = &self.text.plan.couplers;
+        let place = couplers.iter().position(|coupler| coupler.line == line)?;
+        self.text.couplers[place].label.as_deref()
+    }
 }
 
 /// Why there is no site to ask about.
@@ -45,30 +57,53 @@ pub struct RefusedSite {
     pub because: String,
 }
 
+/// As a message begins: the file, its line, the refusal and what draws it.
+impl fmt::Display for RefusedSite {
+    fn fmt(&self, f: &mut fmt::Formatter<'_>) -> fmt::Result {
+        let RefusedSite {
+            refusal,
+            file,
+            line,
+            because,
+        } = self;
+        write!(f, "{file}:{line}: {refusal}: {because}")
+    }
+}
+
 /// Reads a site's file, translates it and has the library judge it.
 pub fn load(file: &str) -> Result<Site, Failure> {
+    let site = translated(file)?;
+    match judge(&site) {
+        None => Ok(site),
+        Some(refused) => Err(Failure::Refused(refused)),
+    }
+}
+
+/// Reads a site's file and translates it.
+pub fn translated(file: &str) -> Result<Site, Failure> {
     let unreadable = |error: std::io::Error| {
         Failure::Faulty(vec![fault(file, "a site's file", &error.to_string())])
     };
     let octets = fs::read(file).map_err(unreadable)?;
     let text = read(file, &octets).map_err(Failure::Faulty)?;
     let octets = translate(&text.plan).ok_or(Failure::Broken)?;
-    match refused(&octets) {
-        None => Ok(Site {
-            file: file.into(),
-            text,
-            octets,
-        }),
-        Some((refusal, place)) => {
-            let (line, because) = cause(&text, refusal, place);
-            Err(Failure::Refused(RefusedSite {
-                refusal,
-                file: file.into(),
-                line,
-                because,
-            }))
-        }
-    }
+    Ok(Site {
+        file: file.into(),
+        text,
+        octets,
+    })
+}
+
+/// The library's refusal of a site; none if it is well-formed.
+pub fn judge(site: &Site) -> Option<RefusedSite> {
+    let (refusal, place) = refused(&site.octets)?;
+    let (line, because) = cause(&site.text, refusal, place);
+    Some(RefusedSite {
+        refusal,
+        file: site.file.clone(),
+        line,
+        because,
+    })
 }
 
 /// Translates a site to octets, and these back: without the same site again there are none.
