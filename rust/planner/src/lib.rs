@@ -11,6 +11,7 @@ pub mod fault;
 pub mod json;
 pub mod loading;
 pub mod octets;
+pub mod picture;
 pub mod plan;
 pub mod text;
 pub mod tracing;
