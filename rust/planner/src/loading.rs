@@ -8,6 +8,7 @@ use crate::plan::{Class, Coupler, Direction, Plan, Setting};
 use crate::text::{read, SiteText};
 use klumdray::tracer::{why, Query};
 use klumdray::Refusal;
+use std::fmt;
 use std::fs;
 
 /// A well-formed site.
@@ -43,6 +44,18 @@ pub struct RefusedSite {
     pub line: usize,
     /// What in that line draws the refusal.
     pub because: String,
+}
+
+impl fmt::Display for RefusedSite {
+    fn fmt(&self, f: &mut fmt::Formatter<'_>) -> fmt::Result {
+        let RefusedSite {
+            refusal,
+            file,
+            line,
+            because,
+        } = self;
+        write!(f, "{file}:{line}: {refusal}: {because}")
+    }
 }
 
 /// Reads a site's file, translates it and has the library judge it.
