@@ -8,6 +8,7 @@ pub mod address;
 pub mod arguments;
 pub mod commands;
 pub mod fault;
+pub mod findings;
 pub mod json;
 pub mod loading;
 pub mod octets;

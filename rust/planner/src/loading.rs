@@ -8,7 +8,8 @@ use crate::plan::{Class, Coupler, Direction, Plan, Setting};
 use crate::text::{read, SiteText};
 use klumdray::tracer::{why, Query};
 use klumdray::Refusal;
-use std::{fmt, fs};
+use std::fmt;
+use std::fs;
 
 /// A site that came back the same from its octets; well-formed if [`load`] gave it.
 #[derive(Debug)]
@@ -57,7 +58,6 @@ pub struct RefusedSite {
     pub because: String,
 }
 
-/// As a message begins: the file, its line, the refusal and what draws it.
 impl fmt::Display for RefusedSite {
     fn fmt(&self, f: &mut fmt::Formatter<'_>) -> fmt::Result {
         let RefusedSite {

@@ -20,7 +20,7 @@ mod row;
 mod write;
 
 pub use read::read;
-pub use write::write;
+pub use write::{range, write};
 
 use crate::address::Group;
 use crate::plan::{Plan, Store};
