@@ -8,7 +8,9 @@ use crate::address::{number, Group, Individual, Line};
 use crate::arguments::{fault, quoted, Arguments, Known};
 use crate::fault::{Fault, Status};
 use crate::loading::{judge, load, translated, Failure, Site};
+use crate::picture::draw;
 use crate::tracing::{trace, Destination, Telegram};
+use std::fs;
 use std::io::{self, IsTerminal};
 
 /// What `klumdray trace --help` says.
@@ -22,7 +24,8 @@ crossed; then, for every other line of the site, the coupler that stops it, the 
   --from LINE           the line that the telegram starts on, as 4.7
   --group GROUP         a group address, as 2/2/52, 2/564, 4660 or 1234h; 0/0/0 is broadcast
   --individual ADDRESS  an individual address, as 4.7.12
-  --count COUNT         the count on the starting line, 0 to 7, where 7 is never lowered; without it 6
+  --count COUNT         the count on the starting line, 0 to 7; 7 is never lowered. Without it: 6
+  --picture FILE        draws the tree of lines as well, and writes it to FILE as SVG
   --json                the answer as one JSON object
   --octets              instead of the answer, telegram and site as the program 'trace' reads them,
                         for a file or a pipe; that program has no filter tables
@@ -32,11 +35,11 @@ crossed; then, for every other line of the site, the coupler that stops it, the 
 
 Exit status: 0 answered; 1 the site is refused; 2 a file or an argument cannot be read.
 
-  klumdray trace examples/plant.site --from 4.7 --group 2/2/52
+  klumdray trace examples/plant.site --from 4.7 --group 2/2/52 --picture leak.svg
   klumdray trace examples/plant.site --from 2.1 --individual 4.7.0 --count 5 --json
 ";
 
-const KNOWN: [Known; 6] = [
+const KNOWN: [Known; 7] = [
     Known {
         name: "--from",
         value: Some(LINE),
@@ -54,6 +57,10 @@ const KNOWN: [Known; 6] = [
         value: Some(COUNT),
     },
     Known {
+        name: "--picture",
+        value: Some(PICTURE),
+    },
+    Known {
         name: "--json",
         value: None,
     },
@@ -67,7 +74,10 @@ const LINE: &str = "a line such as 4.7, area and line from 0 to 15";
 const GROUP: &str = "a group address such as 2/2/52, 2/564, 4660 or 1234h";
 const INDIVIDUAL: &str = "an individual address such as 4.7.12";
 const COUNT: &str = "a count from 0 to 7";
+const PICTURE: &str = "a file to write the picture to";
 const USUAL_COUNT: u8 = 6;
+/// "A site is 0 to 255 records"
+const MOST_COUPLERS: usize = 255;
 
 /// Runs the command.
 pub fn run(words: &[String], streams: &mut Streams<'_>) -> io::Result<Status> {
@@ -91,6 +101,7 @@ struct Asked {
     file: String,
     telegram: Telegram,
     form: Form,
+    picture: Option<String>,
 }
 
 impl Asked {
@@ -111,6 +122,7 @@ impl Asked {
                 count: count.unwrap_or(USUAL_COUNT),
             },
             form: form(&arguments)?,
+            picture: arguments.value("--picture").map(String::from),
         })
     }
 }
@@ -131,28 +143,26 @@ fn destination(arguments: &Arguments) -> Result<Destination, Fault> {
 }
 
 fn form(arguments: &Arguments) -> Result<Form, Fault> {
-    match (arguments.has("--json"), arguments.has("--octets")) {
-        (false, false) => Ok(Form::Table),
-        (true, false) => Ok(Form::Object),
-        (true, true) => Err(fault("--octets", "nothing beside the octets", "--json")),
-        (false, true) if io::stdout().is_terminal() => Err(fault(
-            "--octets",
-            "a file or a pipe as standard output",
-            "a terminal",
-        )),
-        (false, true) => Ok(Form::Octets),
+    if !arguments.has("--octets") {
+        let json = arguments.has("--json");
+        return Ok(if json { Form::Object } else { Form::Table });
     }
+    let beside = ["--json", "--picture"];
+    if let Some(other) = beside.into_iter().find(|other| arguments.has(other)) {
+        return Err(fault("--octets", "nothing but the octets asked for", other));
+    }
+    if io::stdout().is_terminal() {
+        let expected = "a file or a pipe as standard output";
+        return Err(fault("--octets", expected, "a terminal"));
+    }
+    Ok(Form::Octets)
 }
 
 fn answer(asked: &Asked, streams: &mut Streams<'_>) -> io::Result<Status> {
-    let Asked {
-        file,
-        telegram,
-        form,
-    } = asked;
-    let site = match load(file) {
+    let telegram = &asked.telegram;
+    let site = match load(&asked.file) {
         Ok(site) => site,
-        Err(Failure::Refused(refused)) if *form == Form::Object => {
+        Err(Failure::Refused(refused)) if asked.form == Form::Object => {
             writeln!(streams.output, "{}", object::refused(&refused))?;
             return Ok(Status::Refused);
         }
@@ -160,16 +170,31 @@ fn answer(asked: &Asked, streams: &mut Streams<'_>) -> io::Result<Status> {
     };
     let traced = match trace(&site, telegram) {
         Ok(traced) => traced,
-        Err(refusal) => return streams.broken(&format!("{file} is accepted, then {refusal}")),
+        Err(refusal) => return streams.broken(&format!("the site is accepted, then {refusal}")),
     };
-    match form {
-        Form::Object => {
-            let object = object::traced(&site, telegram, &traced);
-            writeln!(streams.output, "{object}")?;
+    if let Some(file) = &asked.picture {
+        if let Err(fault) = write_picture(file, &site, &draw(&site, telegram, &traced)) {
+            return streams.faulty(&[fault]);
         }
-        _ => write!(streams.output, "{}", table::told(&site, telegram, &traced))?,
     }
+    let told = match asked.form {
+        Form::Object => format!("{}\n", object::traced(&site, telegram, &traced)),
+        _ => table::told(&site, telegram, &traced),
+    };
+    streams.output.write_all(told.as_bytes())?;
     Ok(Status::Answered)
+}
+
+/// Writes the picture, but never over the site's text.
+fn write_picture(file: &str, site: &Site, picture: &str) -> Result<(), Fault> {
+    let is_site = match (fs::canonicalize(file), fs::canonicalize(&site.file)) {
+        (Ok(picture), Ok(site)) => picture == site,
+        _ => false,
+    };
+    if is_site {
+        return Err(fault(file, PICTURE, "the site's own file"));
+    }
+    fs::write(file, picture).map_err(|error| fault(file, PICTURE, &error.to_string()))
 }
 
 /// Writes what the program reads. It judges for itself, so a site that the library refuses is
@@ -182,14 +207,8 @@ fn write_octets(asked: &Asked, streams: &mut Streams<'_>) -> io::Result<Status> 
     streams
         .output
         .write_all(&program_input(&asked.telegram, &site))?;
-    let mut couplers = site.text.plan.couplers.iter();
-    if let Some(coupler) = couplers.find(|coupler| coupler.table.is_some()) {
-        writeln!(
-            streams.errors,
-            "klumdray: note: coupler {} names a filter table; the program 'trace' has empty stores \
-             and refuses that by 18",
-            coupler.line
-        )?;
+    for note in program_refuses(&site) {
+        writeln!(streams.errors, "klumdray: note: {note}")?;
     }
     match judge(&site) {
         Some(refused) => streams.refused(&refused),
@@ -203,4 +222,24 @@ fn program_input(telegram: &Telegram, site: &Site) -> Vec<u8> {
     let [high, low] = query.destination.to_be_bytes();
     let head = [query.start, query.group.into(), high, low, query.count];
     [&head[..], &site.octets.records].concat()
+}
+
+/// Where the program's answer is not the library's: it reads "with empty stores", and "more than
+/// 3,065" octets "are refused".
+fn program_refuses(site: &Site) -> Vec<String> {
+    let couplers = &site.text.plan.couplers;
+    let mut notes = Vec::new();
+    if couplers.len() > MOST_COUPLERS {
+        notes.push(format!(
+            "{} couplers; the program 'trace' refuses more than {MOST_COUPLERS} by 5",
+            couplers.len()
+        ));
+    }
+    if let Some(coupler) = couplers.iter().find(|coupler| coupler.table.is_some()) {
+        notes.push(format!(
+            "coupler {} names a filter table; the program 'trace' has none and refuses that by 18",
+            coupler.line
+        ));
+    }
+    notes
 }
