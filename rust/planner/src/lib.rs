@@ -8,6 +8,8 @@ pub mod address;
 pub mod arguments;
 pub mod commands;
 pub mod fault;
+pub mod frame;
+pub mod hex;
 pub mod json;
 pub mod octets;
 pub mod plan;
