@@ -16,3 +16,4 @@ pub mod picture;
 pub mod plan;
 pub mod text;
 pub mod tracing;
+pub mod words;
