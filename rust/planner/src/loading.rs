@@ -3,6 +3,7 @@
 use crate::address::Line;
 use crate::arguments::fault;
 use crate::fault::Fault;
+use crate::json::Json;
 use crate::octets::{octets_of, plan_of, Octets};
 use crate::plan::{Class, Coupler, Direction, Plan, Setting};
 use crate::text::{read, CouplerText, SiteText};
@@ -56,6 +57,19 @@ pub struct RefusedSite {
     pub line: usize,
     /// What in that line draws the refusal.
     pub because: String,
+}
+
+impl RefusedSite {
+    /// What scripts are told of it.
+    pub fn members(&self) -> Vec<(&'static str, Json)> {
+        vec![
+            ("refused", self.refusal.number().into()),
+            ("words", self.refusal.words().into()),
+            ("file", self.file.as_str().into()),
+            ("line", self.line.into()),
+            ("because", self.because.as_str().into()),
+        ]
+    }
 }
 
 impl fmt::Display for RefusedSite {

@@ -9,6 +9,7 @@ mod svg;
 
 use crate::loading::Site;
 use crate::tracing::{lines, Telegram, Traced};
+use crate::words::counted;
 use layout::{Layout, MARGIN};
 use scene::{Passage, Scene};
 use svg::{cut, Anchor, Letters, Point, Svg};
@@ -67,10 +68,6 @@ fn header(svg: &mut Svg, scene: &Scene<'_>, room: i32) {
         at.y += size + 8;
         svg.text(at, letters, &cut(text, letters, room));
     }
-}
-
-fn counted(number: usize, what: &str) -> String {
-    format!("{number} {what}{}", if number == 1 { "" } else { "s" })
 }
 
 /// The couplers lie below, so that a line's border is drawn over the ends of its links.
