@@ -14,8 +14,15 @@ Fact = namedtuple("Fact", "name ours theirs")
 MESSAGES = {"request": 0x11, "confirmation": 0x2E, "indication": 0x29}
 # The fields that a refusal is about; a message whose code it does not know is data to tshark.
 FAULTY = {
-    3: ("cemi.eff",), 4: ("cemi.len",), 5: ("cemi.len",), 8: ("cemi.ai.n",), 9: ("cemi.len",),
-    7: ("cemi.mc", "cemi.data"), 10: ("knxip.headerlength", "knxip.version"), 11: ("knxip.service",), 12: ("knxip.totallength",),
+    3: ("cemi.eff",),
+    4: ("cemi.len",),
+    5: ("cemi.len",),
+    7: ("cemi.mc", "cemi.data"),
+    8: ("cemi.ai.n",),
+    9: ("cemi.len",),
+    10: ("knxip.headerlength", "knxip.version"),
+    11: ("knxip.service",),
+    12: ("knxip.totallength",),
 }
 # What tshark marks if octets are missing; behind the last one it says what it expected there.
 SHORT = ("packet", "cemi", "cemi.ai.n", "cemi.len")
@@ -120,9 +127,10 @@ def octet_facts(found, name, part, begin):
     shown = {}
     for field in found.fields:
         shown.update(enumerate(field.octets, field.place))
-    places = [place for place in range(begin, begin + len(part)) if place in shown]
-    yield Fact(f"octets of the {name}", [part[place - begin] for place in places], [shown[place] for place in places])
-    yield Fact(f"octets shown of the {name}", len(part), len(places))
+    both = [(octet, shown[place]) for place, octet in enumerate(part, begin) if place in shown]
+    ours, theirs = (bytes(octets).hex(" ").upper() for octets in zip(*both)) if both else ("", "")
+    yield Fact(f"octets of the {name}", ours, theirs)
+    yield Fact(f"octets shown of the {name}", len(part), len(both))
 
 
 def mark_name(row, parts, mark):
@@ -161,7 +169,7 @@ def shown_place(row, number, found):
     """Where tshark shows the field that the refusal is about."""
     if number == 1:
         return len(row.octets)
-    names = FAULTY[number]
+    names = FAULTY.get(number, ())
     if number == 10 and found.value("knxip.headerlength") == 6:
         names = ("knxip.version",)
     field = next((field for field in found.fields if field.name in names), None)
