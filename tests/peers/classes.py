@@ -135,7 +135,7 @@ def application(parts):
 
 OURS = "ours"
 AS_IT_STANDS = "ours; tshark shows the bit as it stands"
-ABOVE = "ours; tshark looks into the layer above"
+INSIDE = "ours; tshark reads on in octets that are only handed out"
 PAYLOAD = "payload (TPCI onward, 1 to 16 octets standard, 1 to 255 extended)"
 HANDED_OUT = "The payload is handed out as the very octets received, not copied; additional information likewise."
 TOTAL = "12 | total length differs from the datagram's"
@@ -162,12 +162,12 @@ CLASSES = (
           "LG is 0 to 254; 255 is an escape (002)."),
     Class("standard with LG above 15", ("refusal 9",), long_standard, True, OURS,
           "9 | cEMI standard with LG above 15"),
-    Class("additional information in no elements", ("mark in the information",), loose_information, True, ABOVE,
+    Class("additional information in no elements", ("mark in the information",), loose_information, True, INSIDE,
           "a octets of additional information (a up to 254)"),
     Class("additional information ends in an element", ("octets shown of the information",), cut_element, True, OURS,
           HANDED_OUT),
-    Class("sequence number without numbering", ("mark on the sequence number",), unnumbered, True, ABOVE, PAYLOAD),
-    Class("control TPCI with octets behind it", ("mark in the payload",), control_with_octets, True, ABOVE, PAYLOAD),
-    Class("data TPCI alone", ("mark in the payload",), data_alone, True, ABOVE, PAYLOAD),
-    Class("application data", ("mark in the payload",), application, False, ABOVE, HANDED_OUT),
+    Class("sequence number without numbering", ("mark on the sequence number",), unnumbered, True, INSIDE, PAYLOAD),
+    Class("control TPCI with octets behind it", ("mark in the payload",), control_with_octets, True, INSIDE, PAYLOAD),
+    Class("data TPCI alone", ("mark in the payload",), data_alone, True, INSIDE, PAYLOAD),
+    Class("application data", ("mark in the payload",), application, False, INSIDE, HANDED_OUT),
 )
