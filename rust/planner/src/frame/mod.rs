@@ -52,8 +52,13 @@ pub enum Told<'a> {
     Accepted(Frame<'a>),
     /// This kind was asked for or is the only one that they may have been, and its reader refuses.
     Refused(Kind, Refusal),
-    /// They may have been none of the three, or more than one, and each reader refuses.
-    Untold(Vec<(Kind, Refusal)>),
+    /// Each reader refuses, and it is not to be told which was meant.
+    Untold {
+        /// The kinds that they may have been: none, or more than one.
+        likely: Vec<Kind>,
+        /// What each reader says.
+        refusals: Vec<(Kind, Refusal)>,
+    },
 }
 
 impl Kind {
@@ -140,7 +145,7 @@ fn begins_another_header(octets: &[u8]) -> bool {
 /// assert_eq!(tell(&[0xbc], None), Told::Refused(Kind::Tp1, Refusal::TOO_FEW));
 /// assert_eq!(tell(&[0x29], None), Told::Refused(Kind::Cemi, Refusal::TOO_FEW));
 /// assert_eq!(tell(&[0x06], None), Told::Refused(Kind::Routing, Refusal::TOO_FEW));
-/// assert!(matches!(tell(&[0xcc], None), Told::Untold(_)));
+/// assert!(matches!(tell(&[0xcc], None), Told::Untold { .. }));
 /// assert_eq!(tell(&[0xcc], Some(Kind::Tp1)), Told::Refused(Kind::Tp1, Refusal::ANOTHER_KIND));
 /// ```
 pub fn tell(octets: &[u8], kind: Option<Kind>) -> Told<'_> {
@@ -162,9 +167,12 @@ fn tell_apart(octets: &[u8]) -> Told<'_> {
         }
     }
     let likely = |(kind, refusal): &&(Kind, Refusal)| !kind.is_another(octets, *refusal);
-    let mut candidates = refusals.iter().filter(likely);
-    match (candidates.next(), candidates.next()) {
-        (Some(&(kind, refusal)), None) => Told::Refused(kind, refusal),
-        _ => Told::Untold(refusals),
+    let candidates: Vec<(Kind, Refusal)> = refusals.iter().filter(likely).copied().collect();
+    match candidates[..] {
+        [(kind, refusal)] => Told::Refused(kind, refusal),
+        _ => Told::Untold {
+            likely: candidates.iter().map(|(kind, _)| *kind).collect(),
+            refusals,
+        },
     }
 }

@@ -27,6 +27,8 @@ pub enum Expected {
     Control,
     /// These very octets.
     Octets(Vec<u8>),
+    /// The datagram's length in two octets.
+    Total(u16),
     /// One of these octets.
     OneOf(&'static [u8]),
     /// An octet from 00h up to this one.
@@ -45,6 +47,10 @@ impl fmt::Display for Expected {
             // "Bit 6: 0. .. Bit 4: 1. .. Bits 1 and 0: 00."
             Expected::Control => write!(f, "the bits x0x1xx00"),
             Expected::Octets(octets) => write!(f, "{}", marked(octets).join(" ")),
+            Expected::Total(length) => {
+                let octets = marked(&length.to_be_bytes()).join(" ");
+                write!(f, "{octets}, the datagram's {length} octets")
+            }
             Expected::OneOf(octets) => {
                 let octets = marked(octets);
                 let octets: Vec<&str> = octets.iter().map(String::as_str).collect();
@@ -72,17 +78,17 @@ pub fn marked(octets: &[u8]) -> Vec<String> {
 /// assert_eq!((place.octets, place.expected.to_string().as_str()), (8..9, "FEh"));
 /// ```
 pub fn place(kind: Kind, octets: &[u8], refusal: Refusal) -> Option<Place> {
-    let fields = Fields::of(kind, octets);
+    let layout = Layout::of(kind, octets);
     let message = header(kind);
     let (octets, expected) = match refusal {
-        Refusal::TOO_FEW => (octets.len()..octets.len(), fields.needed()),
+        Refusal::TOO_FEW => (octets.len()..octets.len(), layout.needed()),
         Refusal::ANOTHER_KIND => (0..1, Expected::Control),
         Refusal::EFF => {
-            let octet = octets.get(fields.eff)?;
-            (one(fields.eff), Expected::Octets(vec![octet & 0xf0]))
+            let octet = octets.get(layout.eff)?;
+            (one(layout.eff), Expected::Octets(vec![octet & 0xf0]))
         }
-        Refusal::ESCAPE | Refusal::STANDARD_LG => (one(fields.lg), Expected::UpTo(fields.most)),
-        Refusal::OCTETS_LEFT => (fields.size()..octets.len(), Expected::End),
+        Refusal::ESCAPE | Refusal::STANDARD_LG => (one(layout.lg), Expected::UpTo(layout.most)),
+        Refusal::OCTETS_LEFT => (layout.size()..octets.len(), Expected::End),
         Refusal::CHECK_OCTET => {
             let (_, before) = octets.split_last()?;
             let expected = Expected::Octets(vec![check_octet(before)]);
@@ -132,14 +138,11 @@ fn beginning(octets: &[u8]) -> Option<(Range<usize>, Expected)> {
 }
 
 fn total(length: usize) -> Expected {
-    match u16::try_from(length) {
-        Ok(length) => Expected::Octets(length.to_be_bytes().to_vec()),
-        Err(_) => Expected::Shorter,
-    }
+    u16::try_from(length).map_or(Expected::Shorter, Expected::Total)
 }
 
 /// Where the fields lie that say how long a frame is, as far as the octets there tell.
-struct Fields {
+struct Layout {
     /// The octet of EFF.
     eff: usize,
     /// The octet of LG.
@@ -152,21 +155,21 @@ struct Fields {
     value: Option<u8>,
 }
 
-impl Fields {
-    fn of(kind: Kind, octets: &[u8]) -> Fields {
+impl Layout {
+    fn of(kind: Kind, octets: &[u8]) -> Layout {
         match kind {
-            Kind::Tp1 => Fields::of_tp1(octets),
-            Kind::Cemi | Kind::Routing => Fields::of_message(header(kind), octets),
+            Kind::Tp1 => Layout::of_tp1(octets),
+            Kind::Cemi | Kind::Routing => Layout::of_message(header(kind), octets),
         }
     }
 
     /// "Standard, 8 + LG octets", "Extended, 9 + LG octets".
-    fn of_tp1(octets: &[u8]) -> Fields {
+    fn of_tp1(octets: &[u8]) -> Layout {
         let standard = is_standard(octets.first());
         let (eff, lg) = if standard { (5, 5) } else { (1, 6) };
         let most = greatest(standard);
         let mask = if standard { 0x0f } else { 0xff };
-        Fields {
+        Layout {
             eff,
             lg,
             most,
@@ -177,11 +180,11 @@ impl Fields {
 
     /// "10 + a + LG octets: message code, a, a octets of additional information .., Ctrl1, Ctrl2
     /// .., source, destination, LG".
-    fn of_message(header: usize, octets: &[u8]) -> Fields {
+    fn of_message(header: usize, octets: &[u8]) -> Layout {
         let a = octets.get(header + 1).copied().map_or(0, usize::from);
         let control = header + 2 + a;
         let lg = control + 6;
-        Fields {
+        Layout {
             eff: control + 1,
             lg,
             most: greatest(is_standard(octets.get(control))),

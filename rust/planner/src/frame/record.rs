@@ -1,4 +1,7 @@
+//! What the readers say of octets, for scripts.
+
 use super::place::place;
+use super::words::doubt;
 use super::{Frame, Kind, Message, Told};
 use crate::address::{Group, Individual};
 use crate::hex::joined;
@@ -16,7 +19,7 @@ pub fn record(octets: &[u8], told: &Told<'_>, line: Option<usize>) -> Json {
     members.extend(match told {
         Told::Accepted(frame) => accepted(frame),
         Told::Refused(kind, refusal) => refused(octets, *kind, *refusal),
-        Told::Untold(refusals) => untold(refusals),
+        Told::Untold { likely, refusals } => untold(likely, refusals),
     });
     Json::Object(members)
 }
@@ -78,14 +81,14 @@ fn refused(octets: &[u8], kind: Kind, refusal: Refusal) -> Members {
 }
 
 /// No number stands for all: each reader's is given.
-fn untold(refusals: &[(Kind, Refusal)]) -> Members {
+fn untold(likely: &[Kind], refusals: &[(Kind, Refusal)]) -> Members {
     let numbers = refusals
         .iter()
         .map(|(kind, refusal)| (kind.token(), refusal.number().into()));
     vec![
         ("kind", Json::Null),
         ("refusal", Json::Null),
-        ("words", super::words::UNTOLD.into()),
+        ("words", doubt(likely).into()),
         ("place", Json::Null),
         ("expected", Json::Null),
         ("refusals", Json::Object(numbers.collect())),

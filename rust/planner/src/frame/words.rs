@@ -1,13 +1,13 @@
+//! What the readers say of octets, for people.
+
 use super::place::{marked, place, Expected, Place};
 use super::{Frame, Kind, Message, Told};
 use crate::address::{Group, Individual};
+use crate::arguments::listed;
 use crate::hex::spaced;
 use klumdray::cemi::Code;
 use klumdray::{Meaning, Refusal};
 use std::ops::Range;
-
-/// What is said where no kind, or more than one, may be meant.
-pub(super) const UNTOLD: &str = "not to be told apart: TP1, cEMI or routing";
 
 /// Octets in a row.
 const ROW: usize = 16;
@@ -21,7 +21,7 @@ pub fn paragraph(octets: &[u8], told: &Told<'_>, line: Option<usize>) -> String 
         + &match told {
             Told::Accepted(frame) => accepted(octets, frame),
             Told::Refused(kind, refusal) => refused(octets, *kind, *refusal),
-            Told::Untold(refusals) => untold(octets, refusals),
+            Told::Untold { likely, refusals } => untold(octets, likely, refusals),
         }
 }
 
@@ -50,7 +50,7 @@ fn before(message: &Message<'_>) -> Fields {
     let (name, mark) = match message.code {
         Code::Request => ("request", "0, read in a confirmation only"),
         Code::Indication => ("indication", "0, read in a confirmation only"),
-        Code::Confirmation if message.error_mark => ("confirmation", "1, not sent without error"),
+        Code::Confirmation if message.error_mark => ("confirmation", "1, error"),
         Code::Confirmation => ("confirmation", "0, no error"),
     };
     let code = format!("{:02X}h, L_Data {name}", message.code.octet());
@@ -135,9 +135,18 @@ fn refused(octets: &[u8], kind: Kind, refusal: Refusal) -> String {
     text
 }
 
-fn untold(octets: &[u8], refusals: &[(Kind, Refusal)]) -> String {
-    let mut text = format!("{UNTOLD}\n");
-    text += &row(octets, 0);
+/// What is said where no kind, or more than one, may be meant.
+pub(super) fn doubt(likely: &[Kind]) -> String {
+    let names: Vec<&str> = likely.iter().map(|kind| kind.name()).collect();
+    match names[..] {
+        [] => "neither TP1 nor cEMI nor routing".into(),
+        _ => format!("{}, not told apart", listed(&names)),
+    }
+}
+
+fn untold(octets: &[u8], likely: &[Kind], refusals: &[(Kind, Refusal)]) -> String {
+    let mut text = format!("{}\n", doubt(likely));
+    text += &last_row(octets, 0);
     for (kind, refusal) in refusals {
         text += &format!("  read as {}, {refusal}\n", kind.name());
         if let Some(place) = place(*kind, octets, *refusal) {
@@ -176,27 +185,34 @@ fn other_kind(control: u8) -> String {
     format!(" ({control:08b}{name})")
 }
 
-/// The first row of octets and the row where the marked ones begin, with a mark under these.
+/// The first row of octets and the row where the marked ones begin, with marks under these.
 fn shown(octets: &[u8], marked: &Range<usize>) -> String {
-    let first = marked.start / ROW;
-    let mut text = match first {
+    let number = marked.start / ROW;
+    let before = match number {
         0 => String::new(),
-        1 => row(octets, 0),
-        _ => row(octets, 0) + "      ..\n",
+        1 => row(octets, 0) + "\n",
+        _ => row(octets, 0) + "\n      ..\n",
     };
-    text += &row(octets, first);
-    let end = marked.end.clamp(marked.start + 1, (first + 1) * ROW);
+    let end = marked.end.clamp(marked.start + 1, (number + 1) * ROW);
     let marks = vec!["^^"; end - marked.start].join(" ");
-    let before = 3 * (marked.start % ROW);
-    text + &format!("{:6}{:before$}{marks}\n", "", "")
+    let indent = 6 + 3 * (marked.start % ROW);
+    format!(
+        "{before}{}{:indent$}{marks}\n",
+        last_row(octets, number),
+        ""
+    )
+}
+
+/// A row behind which no other is shown.
+fn last_row(octets: &[u8], number: usize) -> String {
+    let more = octets.len() > (number + 1) * ROW;
+    row(octets, number) + if more { " ..\n" } else { "\n" }
 }
 
 fn row(octets: &[u8], number: usize) -> String {
     let start = number * ROW;
-    let rest = octets.get(start..).unwrap_or(&[]);
-    let line = format!("{start:4}  {}", spaced(&rest[..rest.len().min(ROW)]));
-    let more = if rest.len() > ROW { " .." } else { "" };
-    format!("{}{more}\n", line.trim_end())
+    let row = octets.chunks(ROW).nth(number).unwrap_or(&[]);
+    format!("{start:4}  {}", spaced(row)).trim_end().into()
 }
 
 fn wrapped(octets: &[u8]) -> String {

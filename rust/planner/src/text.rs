@@ -1,1 +1,0 @@
-//! A site as a person writes it.
