@@ -1,4 +1,3 @@
-#!/usr/bin/env python3
 """Compares what `klumdray decode` and tshark say of the same cEMI messages and routing datagrams,
 and prints each class of differences. Ends with status 1 if a difference falls into no class, or a
 class is not what its rule says. The one argument is the program."""
@@ -59,7 +58,8 @@ def sort_out(all_cases):
     for case in all_cases:
         for name in case.differing:
             sorted_out[class_of(case, name)].append((case, name))
-    return sorted_out, sorted_out.pop(None)
+    unknown = sorted_out.pop(None)
+    return sorted_out, unknown
 
 
 def beyond(c, all_cases):

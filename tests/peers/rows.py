@@ -16,8 +16,7 @@ Row = namedtuple("Row", "form octets origin")
 HEADER = 6
 GOOD = "06 10 05 30 00 14 29 00 BC C0 00 00 12 34 04 00 80 56 78 9A"
 CODES = (0x11, 0x2E, 0x29)
-# Kinds of additional information and how many octets the specifications give them; FEh is the
-# manufacturer's own.
+# Kinds of additional information with a length that each may have; FEh is the manufacturer's own.
 KINDS = {1: 2, 2: 8, 3: 1, 4: 2, 5: 4, 6: 4, 7: 2, 8: 4, 9: 3, 10: 2, 0xFE: 6}
 # Payloads that a plant is full of: a group read, written short and long, a broadcast, a property,
 # memory, the transport layer's own.
