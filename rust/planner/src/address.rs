@@ -120,7 +120,7 @@ impl fmt::Display for Group {
 
 /// Decimal digits alone, so no sign and no space, up to a greatest value. Zeros in front are none of
 /// a planner's: `4.07` may be meant as 4.0.7, and `0100` as hex.
-fn number(digits: &str, greatest: u16) -> Option<u16> {
+pub(crate) fn number(digits: &str, greatest: u16) -> Option<u16> {
     let has_zeros = digits.len() > 1 && digits.starts_with('0');
     if has_zeros || !digits.bytes().all(|digit| digit.is_ascii_digit()) {
         return None;

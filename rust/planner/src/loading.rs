@@ -3,14 +3,16 @@
 use crate::address::Line;
 use crate::arguments::fault;
 use crate::fault::Fault;
+use crate::json::Json;
 use crate::octets::{octets_of, plan_of, Octets};
 use crate::plan::{Class, Coupler, Direction, Plan, Setting};
 use crate::text::{read, CouplerText, SiteText};
 use klumdray::tracer::{why, Query};
 use klumdray::Refusal;
+use std::fmt;
 use std::fs;
 
-/// A well-formed site.
+/// A site that came back the same from its octets; well-formed if [`load`] gave it.
 #[derive(Debug)]
 pub struct Site {
     /// Its file.
@@ -19,6 +21,18 @@ pub struct Site {
     pub text: SiteText,
     /// What the library is given.
     pub octets: Octets,
+}
+
+impl Site {
+    /// What a line is called, if it has a name.
+    pub fn label(&self, line: Line) -> Option<&str> {
+        if line == Line(0) {
+            return Some("backbone");
+        }
+        let couplers = &self.text.plan.couplers;
+        let place = couplers.iter().position(|coupler| coupler.line == line)?;
+        self.text.couplers[place].label.as_deref()
+    }
 }
 
 /// Why there is no site to ask about.
@@ -45,32 +59,76 @@ pub struct RefusedSite {
     pub because: String,
 }
 
+impl RefusedSite {
+    /// What scripts are told of it.
+    pub fn members(&self) -> Vec<(&'static str, Json)> {
+        vec![
+            ("refused", self.refusal.number().into()),
+            ("words", self.refusal.words().into()),
+            ("file", self.file.as_str().into()),
+            ("line", self.line.into()),
+            ("because", self.because.as_str().into()),
+        ]
+    }
+}
+
+impl fmt::Display for RefusedSite {
+    fn fmt(&self, f: &mut fmt::Formatter<'_>) -> fmt::Result {
+        let RefusedSite {
+            refusal,
+            file,
+            line,
+            because,
+        } = self;
+        write!(f, "{file}:{line}: {refusal}: {because}")
+    }
+}
+
 /// Reads a site's file, translates it and has the library judge it.
 pub fn load(file: &str) -> Result<Site, Failure> {
+    accepted(translated(file)?)
+}
+
+/// As [`load`], with the file's text at hand.
+pub fn load_text(file: &str, text: &[u8]) -> Result<Site, Failure> {
+    accepted(translated_text(file, text)?)
+}
+
+fn accepted(site: Site) -> Result<Site, Failure> {
+    match judge(&site) {
+        None => Ok(site),
+        Some(refused) => Err(Failure::Refused(refused)),
+    }
+}
+
+/// Reads a site's file and translates it.
+pub fn translated(file: &str) -> Result<Site, Failure> {
     let unreadable = |error: std::io::Error| {
         Failure::Faulty(vec![fault(file, "a site's file", &error.to_string())])
     };
-    judge(file, &fs::read(file).map_err(unreadable)?)
+    translated_text(file, &fs::read(file).map_err(unreadable)?)
 }
 
-/// Reads a site's text, translates it and has the library judge it.
-pub fn judge(file: &str, octets: &[u8]) -> Result<Site, Failure> {
-    let text = read(file, octets).map_err(Failure::Faulty)?;
+fn translated_text(file: &str, text: &[u8]) -> Result<Site, Failure> {
+    let text = read(file, text).map_err(Failure::Faulty)?;
     let octets = translate(&text.plan).ok_or(Failure::Broken)?;
-    let Some((refusal, place)) = refused(&octets) else {
-        return Ok(Site {
-            file: file.into(),
-            text,
-            octets,
-        });
-    };
-    let (line, because) = cause(&text, refusal, place);
-    Err(Failure::Refused(RefusedSite {
-        refusal,
+    Ok(Site {
         file: file.into(),
+        text,
+        octets,
+    })
+}
+
+/// The library's refusal of a site; none if it is well-formed.
+pub fn judge(site: &Site) -> Option<RefusedSite> {
+    let (refusal, place) = refused(&site.octets)?;
+    let (line, because) = cause(&site.text, refusal, place);
+    Some(RefusedSite {
+        refusal,
+        file: site.file.clone(),
         line,
         because,
-    }))
+    })
 }
 
 /// Translates a site to octets, and these back: without the same site again there are none.

@@ -26,7 +26,7 @@ mod tables;
 mod write;
 
 pub use read::read;
-pub use write::write;
+pub use write::{range, write};
 
 use crate::address::Group;
 use crate::plan::{Plan, Store};

@@ -1,0 +1,104 @@
+//! A picture of a trace, as SVG: the tree of lines with the couplers between them. Reached, stopped
+//! and unfitted are told apart by more than colour, so that it reads in print.
+
+mod layout;
+mod legend;
+mod marks;
+mod scene;
+mod svg;
+
+use crate::loading::Site;
+use crate::tracing::{lines, Telegram, Traced};
+use crate::words::counted;
+use layout::{Layout, MARGIN};
+use scene::{Passage, Scene};
+use svg::{cut, Anchor, Letters, Point, Svg};
+
+/// Draws the lines of a site, and what becomes of a telegram on them.
+pub fn draw(site: &Site, telegram: &Telegram, traced: &Traced) -> String {
+    let layout = Layout::new(&lines(site, telegram));
+    let scene = Scene {
+        site,
+        telegram,
+        traced,
+    };
+    let below = layout.height + 2 * MARGIN;
+    let inner = layout.width.max(legend::WIDTH);
+    let (width, height) = (inner + 2 * MARGIN, below + legend::HEIGHT);
+    let mut svg = Svg::default();
+    let attributes: &svg::Attributes<'_> = &[
+        ("xmlns", &"http://www.w3.org/2000/svg"),
+        ("width", &width),
+        ("height", &height),
+        ("viewBox", &format!("0 0 {width} {height}")),
+        ("font-family", &"sans-serif"),
+    ];
+    svg.group("svg", attributes, |svg| {
+        svg.element(
+            "rect",
+            &[("width", &width), ("height", &height), ("fill", &"#ffffff")],
+        );
+        header(svg, &scene, inner);
+        tree(svg, &scene, &layout);
+        svg.group("g", &[("class", &"legend")], |svg| {
+            legend::legend(svg, below)
+        });
+    });
+    svg.into_text()
+}
+
+fn header(svg: &mut Svg, scene: &Scene<'_>, room: i32) {
+    let Telegram { from, to, count } = scene.telegram;
+    let telegram = format!("{to} from {from}, count {count}");
+    let lines = counted(scene.traced.reached.len(), "line");
+    let forwardings = counted(scene.traced.forwardings, "forwarding");
+    let mut rows = vec![telegram.clone(), format!("{lines} reached, {forwardings}")];
+    let title = scene.site.text.title.clone();
+    let all = title.iter().chain([&telegram]).cloned().collect::<Vec<_>>();
+    svg.text_element("title", &[], &all.join(": "));
+    rows.splice(0..0, title);
+    let mut at = Point { x: MARGIN, y: 20 };
+    for (row, text) in rows.iter().enumerate() {
+        let size = if row == 0 { 22 } else { 16 };
+        let letters = Letters {
+            size,
+            bold: row == 0,
+            anchor: Anchor::Start,
+        };
+        at.y += size + 8;
+        svg.text(at, letters, &cut(text, letters, room));
+    }
+}
+
+/// The couplers lie below, so that a line's border is drawn over the ends of its links.
+fn tree(svg: &mut Svg, scene: &Scene<'_>, layout: &Layout) {
+    for (line, link) in &layout.links {
+        let (passage, words) = scene.coupler(*line);
+        let class = format!("coupler {}", kind(passage));
+        svg.group("g", &[("class", &class), ("data-coupler", line)], |svg| {
+            svg.text_element("title", &[], &words);
+            marks::coupler(svg, passage, link);
+        });
+    }
+    for (line, outline) in &layout.lines {
+        let drawn = scene.line(*line);
+        let class = match drawn.arrival {
+            _ if drawn.start => "line reached start",
+            Some(_) => "line reached",
+            None => "line not-reached",
+        };
+        svg.group("g", &[("class", &class), ("data-line", line)], |svg| {
+            svg.text_element("title", &[], &drawn.words);
+            marks::line(svg, &drawn, outline);
+        });
+    }
+}
+
+fn kind(passage: Passage) -> &'static str {
+    match passage {
+        Passage::Crossed(_) => "crossed",
+        Passage::Stopped(..) => "stopped",
+        Passage::NotAsked => "not-asked",
+        Passage::NotFitted => "not-fitted",
+    }
+}
