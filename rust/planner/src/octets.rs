@@ -79,8 +79,8 @@ pub fn octets_of(plan: &Plan) -> Option<Octets> {
     let records: Vec<[u8; RECORD]> = plan.couplers.iter().map(record_of).collect();
     Some(Octets {
         records: records.concat(),
-        project: plan.project.iter().flat_map(table_of).collect(),
-        own: plan.own.iter().flat_map(table_of).collect(),
+        project: store_of(&plan.project),
+        own: store_of(&plan.own),
     })
 }
 
@@ -110,6 +110,11 @@ fn number_of(table: TableAt) -> u8 {
         Store::Project => table.place as u8,
         Store::Own => (PROJECT_TABLES + table.place) as u8,
     }
+}
+
+fn store_of(tables: &[Groups]) -> Vec<u8> {
+    let tables: Vec<Vec<u8>> = tables.iter().map(table_of).collect();
+    tables.concat()
 }
 
 /// "bit g mod 8 of octet g div 8".
@@ -175,10 +180,17 @@ fn tables_of(store: &[u8], most: usize) -> Option<Vec<Groups>> {
 }
 
 fn groups_of(table: &[u8]) -> Groups {
-    let octets = (0..=u16::MAX).step_by(8).zip(table);
-    let listed = octets.flat_map(|(first, octet)| {
-        let bits = (0..8).filter(move |bit| octet >> bit & 1 == 1);
-        bits.map(move |bit| Group(first + bit))
-    });
-    Groups::new(listed.map(|group| (group, group)).collect())
+    let mut ranges = Vec::new();
+    for (first, octet) in (0..=u16::MAX).step_by(8).zip(table) {
+        match octet {
+            0 => {}
+            0xff => ranges.push((Group(first), Group(first + 7))),
+            _ => {
+                let bits = (0..8).filter(|bit| octet >> bit & 1 == 1);
+                let groups = bits.map(|bit| Group(first + bit));
+                ranges.extend(groups.map(|group| (group, group)));
+            }
+        }
+    }
+    Groups::new(ranges)
 }

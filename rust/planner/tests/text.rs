@@ -3,7 +3,7 @@
 
 mod support;
 
-use planner::octets::{octets_of, plan_of, OWN_TABLES, PROJECT_TABLES};
+use planner::octets::{octets_of, plan_of, Octets, OWN_TABLES, PROJECT_TABLES};
 use planner::plan::{Plan, Store};
 use planner::text::{read, write, CouplerText, SiteText, TableText};
 use support::generator::{seed, Generator};
@@ -20,22 +20,23 @@ fn a_text_is_its_site() {
     let mut counts = Counts::default();
     for number in 0..SITES {
         let plan = some_site(generator);
-        counts.add(&plan);
-        compare(generator, plan).unwrap_or_else(|what| panic!("site {number}: {what}"));
+        let octets = octets_of(&plan).expect("octets");
+        counts.add(&plan, &octets);
+        let compared = compare(generator, plan, &octets);
+        compared.unwrap_or_else(|what| panic!("site {number}: {what}"));
     }
     println!("{counts:?}");
     counts.assert_covers();
 }
 
-fn compare(generator: &mut Generator, plan: Plan) -> Result<(), String> {
-    let octets = octets_of(&plan).ok_or("no octets")?;
-    let again = plan_of(&octets).ok_or("no plan")?;
+fn compare(generator: &mut Generator, plan: Plan, octets: &Octets) -> Result<(), String> {
+    let again = plan_of(octets).ok_or("no plan")?;
     same("plan", &again, &plan)?;
 
     let text = write(&SiteText::of(again));
     let site = read_text(&text)?;
     let octets_again = octets_of(&site.plan).ok_or("no octets of the text")?;
-    same("octets", &octets_again, &octets)?;
+    same("octets", &octets_again, octets)?;
     let plan_again = plan_of(&octets_again).ok_or("no plan again")?;
     same("text", &write(&SiteText::of(plan_again)), &text)?;
 
@@ -96,8 +97,7 @@ struct Counts {
 }
 
 impl Counts {
-    fn add(&mut self, plan: &Plan) {
-        let octets = octets_of(plan).expect("octets");
+    fn add(&mut self, plan: &Plan, octets: &Octets) {
         let count = |times: &mut usize, is_so: bool| *times += usize::from(is_so);
         count(&mut self.without_couplers, plan.couplers.is_empty());
         count(&mut self.all_couplers, plan.couplers.len() >= 255);

@@ -34,8 +34,7 @@ pub fn blocks<'a>(rows: Vec<Row<'a>>, wrongs: &mut Wrongs) -> Vec<Block<'a>> {
 fn begins_block(row: &Row<'_>, above: Option<&str>) -> bool {
     match (row.word(), above) {
         (_, None) | ("coupler" | "site", _) => true,
-        ("table" | "project", Some("coupler")) => !row.indented,
-        ("table" | "project", _) => true,
+        ("table" | "project", Some("site" | "table" | "project")) => true,
         ("down" | "up" | "both", Some("coupler")) => false,
         (word, Some("table" | "project")) if is_number(word) => false,
         _ => !row.indented,

@@ -3,21 +3,18 @@
 use super::blocks::is_number;
 use super::messages::{direction_below, found, found_address, once, second_after, wrong};
 use super::messages::{Wrong, Wrongs};
-use super::messages::{BOTH_DIRECTIONS, END, KNOWN_NAME, LABEL, LINE, NONE, ONE_TABLE, ROWS};
+use super::messages::{BOTH_DIRECTIONS, END, LABEL, LINE, NONE, ONE_TABLE, ROWS};
 use super::row::{Row, Token};
 use super::settings::settings;
-use super::tables::{name_of, Names};
+use super::tables::Names;
 use crate::address::Line;
 use crate::plan::{Direction, Setting, TableAt};
 
 /// The line and the label of `coupler 4.7 "boiler house"`.
 pub fn line_and_label(head: &Row<'_>) -> Result<(Line, Option<String>), Wrong> {
-    let Some(line) = Line::read(head.rest().first().map_or("", Token::word)) else {
-        let found = match head.rest().first() {
-            Some(Token::Word(word)) => found_address(word),
-            other => found(other),
-        };
-        return Err(wrong(head.at, LINE, found));
+    let address = head.rest().first();
+    let Some(line) = Line::read(address.map_or("", Token::word)) else {
+        return Err(wrong(head.at, LINE, found_address(address)));
     };
     match &head.rest()[1..] {
         [] => Ok((line, None)),
@@ -31,13 +28,15 @@ pub fn line_and_label(head: &Row<'_>) -> Result<(Line, Option<String>), Wrong> {
 /// none, so that no second fault follows from it.
 #[derive(Default)]
 pub struct Below {
-    rows: [Option<(usize, Option<[Setting; 4]>)>; 2],
+    rows: [Option<Said>; 2],
     table: Option<(usize, Option<TableAt>)>,
-    /// Whether there is a line that is none of them: it may be the one that is missing.
+    /// Whether there is a line too many or of another kind: it may stand for one that is missing.
     has_other: bool,
     /// Whether groups may follow that stand here by mistake, which is told once.
     has_groups: bool,
 }
+
+type Said = (usize, Option<[Setting; 4]>);
 
 impl Below {
     pub fn of(body: &[Row<'_>], names: &Names<'_>, wrongs: &mut Wrongs) -> Below {
@@ -78,14 +77,12 @@ impl Below {
                 place => *place = Some((row.at, settings)),
             }
         }
-        match second {
-            None => Ok(()),
-            Some((direction, before)) => Err(wrong(
-                row.at,
-                once(&direction.to_string()),
-                second_after(before),
-            )),
-        }
+        let Some((direction, before)) = second else {
+            return Ok(());
+        };
+        self.has_other = true;
+        let expected = once(&direction.to_string());
+        Err(wrong(row.at, expected, second_after(before)))
     }
 
     fn take_table(&mut self, row: &Row<'_>, names: &Names<'_>) -> Result<(), Wrong> {
@@ -94,13 +91,8 @@ impl Below {
         }
         self.table = Some((row.at, None));
         self.has_groups = true;
-        if names.is_faulty(row.rest().first()) {
-            return Ok(());
-        }
-        let name = name_of(row.rest(), row.at)?;
-        let table = names.table(name);
-        let table = table.ok_or_else(|| wrong(row.at, KNOWN_NAME, found(row.rest().first())))?;
-        self.table = Some((row.at, Some(table)));
+        let table = names.table(row)?;
+        self.table = Some((row.at, table));
         self.has_groups = false;
         Ok(())
     }
@@ -118,7 +110,7 @@ impl Below {
     }
 
     pub fn settings(&self) -> [[Setting; 4]; 2] {
-        let read = |row: Option<(usize, Option<[Setting; 4]>)>| row.and_then(|(_, row)| row);
+        let read = |row: Option<Said>| row.and_then(|(_, settings)| settings);
         self.rows
             .map(|row| read(row).unwrap_or([Setting::Closed; 4]))
     }

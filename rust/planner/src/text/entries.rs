@@ -1,8 +1,8 @@
 //! The lines of a filter table: group addresses and ranges of them.
 
-use super::messages::{found, found_address, group_from, same_form, shown, wrong, Wrong, Wrongs};
+use super::messages::{found, found_address, group_from, same_form, wrong, Wrong, Wrongs};
 use super::messages::{AFTER_GROUP, AFTER_RANGE, GROUP};
-use super::row::{parts, Part, Row};
+use super::row::{parts, Part, Row, Token};
 use crate::address::Group;
 
 /// The entries of a line, with the faults of those that are none noted.
@@ -11,7 +11,7 @@ pub fn entries(row: &Row<'_>, wrongs: &mut Wrongs) -> Vec<(usize, Group, Group)>
         at: row.at,
         first: None,
     };
-    let parts = parts(&row.tokens);
+    let parts = parts(&row.tokens).into_iter();
     let ranges = parts.filter_map(|part| wrongs.take(line.range(&part)));
     ranges.map(|(first, last)| (row.at, first, last)).collect()
 }
@@ -26,37 +26,35 @@ struct Line<'a> {
 impl<'a> Line<'a> {
     /// `2/2/52` or `2/2/50 - 2/2/59`, also without the spaces.
     fn range(&mut self, part: &Part<'_, 'a>) -> Result<(Group, Group), Wrong> {
-        if let Some(other) = part.tokens.iter().find(|token| token.word().is_empty()) {
-            return Err(wrong(self.at, GROUP, found(Some(other))));
-        }
-        let mut words = part.tokens.iter().flat_map(|token| words(token.word()));
-        let end = part.found(part.tokens.len());
-        let Some(start) = words.next() else {
-            return Err(wrong(self.at, GROUP, end));
+        let tokens: Vec<Token<'a>> = part.tokens.iter().flat_map(apart).collect();
+        let [start, rest @ ..] = &tokens[..] else {
+            return Err(wrong(self.at, GROUP, part.found(0)));
         };
         let first = self.group(start)?;
-        match words.next() {
-            None => return Ok((first, first)),
-            Some("-") => {}
-            Some(other) => return Err(wrong(self.at, AFTER_GROUP, shown(other))),
-        }
-        let Some(stop) = words.next() else {
-            return Err(wrong(self.at, GROUP, end));
+        let (stop, rest) = match rest {
+            [] => return Ok((first, first)),
+            [Token::Word("-")] => return Err(wrong(self.at, GROUP, part.found_behind())),
+            [Token::Word("-"), stop, rest @ ..] => (stop, rest),
+            [other, ..] => return Err(wrong(self.at, AFTER_GROUP, found(Some(other)))),
         };
         let last = self.group(stop)?;
-        match words.next() {
-            Some(other) => Err(wrong(self.at, AFTER_RANGE, shown(other))),
-            None if last < first => Err(wrong(self.at, group_from(start), shown(stop))),
+        match rest.first() {
+            Some(_) => Err(wrong(self.at, AFTER_RANGE, found(rest.first()))),
+            None if last < first => {
+                let expected = group_from(start.word());
+                Err(wrong(self.at, expected, found(Some(stop))))
+            }
             None => Ok((first, last)),
         }
     }
 
-    fn group(&mut self, word: &'a str) -> Result<Group, Wrong> {
+    fn group(&mut self, token: &Token<'a>) -> Result<Group, Wrong> {
+        let word = token.word();
         let read = Group::read(word);
-        let group = read.ok_or_else(|| wrong(self.at, GROUP, found_address(word)))?;
+        let group = read.ok_or_else(|| wrong(self.at, GROUP, found_address(Some(token))))?;
         let first = *self.first.get_or_insert(word);
         if form(first) != form(word) {
-            return Err(wrong(self.at, same_form(first), shown(word)));
+            return Err(wrong(self.at, same_form(first), found(Some(token))));
         }
         Ok(group)
     }
@@ -71,11 +69,15 @@ fn form(address: &str) -> (usize, bool) {
 /// The hyphen, and what editors make of it.
 const HYPHENS: [char; 5] = ['-', '\u{2010}', '\u{2013}', '\u{2014}', '\u{2212}'];
 
-/// A word taken apart, with the hyphens on their own.
-fn words(word: &str) -> impl Iterator<Item = &str> {
-    let parts = word.split_inclusive(HYPHENS).flat_map(|part| {
+/// A token taken apart: the hyphens of a word on their own.
+fn apart<'a>(token: &Token<'a>) -> Vec<Token<'a>> {
+    if token.word().is_empty() {
+        return vec![*token];
+    }
+    let parts = token.word().split_inclusive(HYPHENS).flat_map(|part| {
         let word = part.trim_end_matches(HYPHENS);
         [word, &part[word.len()..]]
     });
-    parts.filter(|part| !part.is_empty())
+    let words = parts.filter(|part| !part.is_empty());
+    words.map(Token::Word).collect()
 }

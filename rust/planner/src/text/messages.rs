@@ -163,13 +163,14 @@ pub fn found(token: Option<&Token<'_>>) -> String {
     }
 }
 
-/// An address that is none. Zeros are named because they are easily overlooked.
-pub fn found_address(word: &str) -> String {
+/// What is found in an address's place. Zeros in front are named: they are easily overlooked.
+pub fn found_address(token: Option<&Token<'_>>) -> String {
+    let word = token.map_or("", Token::word);
     let mut numbers = word.split(|digit: char| !digit.is_ascii_digit());
     if numbers.any(|number| number.len() > 1 && number.starts_with('0')) {
-        format!("{} with a leading zero", shown(word))
+        format!("{} with a leading zero", found(token))
     } else {
-        shown(word)
+        found(token)
     }
 }
 

@@ -80,9 +80,7 @@ impl<'a> Reader<'a> {
             .partition(|block| block.head.word() == "coupler");
         for block in &others {
             let read = self.other(block);
-            if self.wrongs.take(read).is_none() {
-                self.names.add_faulty(&block.head.tokens);
-            }
+            self.names.has_gap |= self.wrongs.take(read).is_none();
         }
         for block in &couplers {
             self.coupler(block);
@@ -104,19 +102,20 @@ impl<'a> Reader<'a> {
 
     fn title(&mut self, rest: &[Token<'a>], block: &Block<'a>) -> Result<(), Wrong> {
         let at = block.head.at;
-        if let Some(row) = block.body.first() {
-            self.wrongs.add(wrong(row.at, BLOCKS, BELOW_TITLE));
-        }
+        let title = match rest {
+            [Token::Quoted(title)] => title,
+            [Token::Quoted(_), other, ..] => return Err(wrong(at, END, found(Some(other)))),
+            _ => return Err(wrong(at, TITLE, found(rest.first()))),
+        };
         if let Some(before) = self.title_at {
             return Err(wrong(at, ONE_TITLE, second_after(before)));
         }
         self.title_at = Some(at);
-        match rest {
-            [Token::Quoted(title)] => self.site.title = Some((*title).into()),
-            [Token::Quoted(_), other, ..] => return Err(wrong(at, END, found(Some(other)))),
-            _ => return Err(wrong(at, TITLE, found(rest.first()))),
+        self.site.title = Some((*title).into());
+        match block.body.first() {
+            Some(row) => Err(wrong(row.at, BLOCKS, BELOW_TITLE)),
+            None => Ok(()),
         }
-        Ok(())
     }
 
     fn table(&mut self, store: Store, rest: &[Token<'a>], block: &Block<'a>) -> Result<(), Wrong> {

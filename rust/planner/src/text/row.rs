@@ -1,7 +1,6 @@
 //! One line of a site's text, taken apart.
 
 use super::messages::{found, shown, wrong, Wrong, CLOSING_QUOTE, PLAIN_LINE};
-use std::iter;
 
 /// A word, a text in quotes, or a comma.
 #[derive(Clone, Copy, Debug, PartialEq, Eq)]
@@ -59,25 +58,32 @@ impl<'a> Part<'_, 'a> {
     pub fn found(&self, place: usize) -> String {
         found(self.tokens.get(place).or(self.comma.as_ref()))
     }
+
+    /// What is found behind all its tokens.
+    pub fn found_behind(&self) -> String {
+        self.found(self.tokens.len())
+    }
 }
 
-/// The parts between commas; a comma too many leaves an empty part.
-pub fn parts<'r, 'a>(tokens: &'r [Token<'a>]) -> impl Iterator<Item = Part<'r, 'a>> {
-    let mut rest = Some(tokens);
-    iter::from_fn(move || {
-        let tokens = rest.take()?;
-        let Some(end) = tokens.iter().position(|token| *token == Token::Comma) else {
-            return Some(Part {
-                tokens,
-                comma: None,
-            });
-        };
-        rest = Some(&tokens[end + 1..]);
-        Some(Part {
-            tokens: &tokens[..end],
-            comma: Some(Token::Comma),
+/// The parts between commas. A comma too many leaves an empty part; of several such side by side there
+/// is one.
+pub fn parts<'r, 'a>(tokens: &'r [Token<'a>]) -> Vec<Part<'r, 'a>> {
+    let ends = tokens.split_inclusive(|token| *token == Token::Comma);
+    let mut parts: Vec<Part<'r, 'a>> = ends
+        .map(|tokens| match tokens {
+            [before @ .., Token::Comma] => part(before, Some(Token::Comma)),
+            _ => part(tokens, None),
         })
-    })
+        .collect();
+    if matches!(tokens, [] | [.., Token::Comma]) {
+        parts.push(part(&[], None));
+    }
+    parts.dedup_by(|next, part| next.tokens.is_empty() && part.tokens.is_empty());
+    parts
+}
+
+fn part<'r, 'a>(tokens: &'r [Token<'a>], comma: Option<Token<'a>>) -> Part<'r, 'a> {
+    Part { tokens, comma }
 }
 
 /// Takes a line apart: none if it is blank or a comment; and says what is wrong with it as a line.

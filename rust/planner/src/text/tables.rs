@@ -1,19 +1,20 @@
 //! The names of filter tables.
 
-use super::messages::{found, wrong, Wrong, END, NAME};
-use super::row::Token;
+use super::messages::{found, wrong, Wrong, END, KNOWN_NAME, NAME};
+use super::row::{Row, Token};
 use crate::plan::TableAt;
 use std::collections::HashMap;
 
-/// The tables of a file by their names, with the line of each and whether it has entries; and the
-/// names of those whose blocks cannot be read, so that no coupler is blamed for naming them.
+/// The tables of a file by their names.
 #[derive(Default)]
 pub struct Names<'a> {
     tables: HashMap<&'a str, Named>,
-    faulty: Vec<Token<'a>>,
+    /// Whether a block cannot be read that is perhaps a table's. Then no coupler is blamed for the name
+    /// of a table that is not there.
+    pub has_gap: bool,
 }
 
-/// Where a table is.
+/// Where a table is, at which line of the file, and whether it has no entries.
 #[derive(Clone, Copy)]
 pub struct Named {
     pub table: TableAt,
@@ -30,18 +31,16 @@ impl<'a> Names<'a> {
         }
     }
 
-    /// Notes what may be the name of a table in a line that cannot be read.
-    pub fn add_faulty(&mut self, tokens: &[Token<'a>]) {
-        self.faulty.extend(tokens);
-    }
-
-    pub fn is_faulty(&self, name: Option<&Token<'a>>) -> bool {
-        let is_known = |name: &Token<'a>| self.tables.contains_key(name.word());
-        name.is_some_and(|name| self.faulty.contains(name) && !is_known(name))
-    }
-
-    pub fn table(&self, name: &str) -> Option<TableAt> {
-        self.tables.get(name).map(|named| named.table)
+    /// The table that a coupler's line names after the word `table`.
+    pub fn table(&self, row: &Row<'_>) -> Result<Option<TableAt>, Wrong> {
+        let named = name_of(row.rest(), row.at).and_then(|name| {
+            let named = self.tables.get(name);
+            named.ok_or_else(|| wrong(row.at, KNOWN_NAME, found(row.rest().first())))
+        });
+        match named {
+            Err(_) if self.has_gap => Ok(None),
+            named => named.map(|named| Some(named.table)),
+        }
     }
 }
 

@@ -1,6 +1,7 @@
 //! What the tests share. Each of them uses a part of it.
 #![allow(dead_code)]
 
+pub mod broken;
 #[path = "../../../klumdray/tests/support/generator.rs"]
 pub mod generator;
 pub mod layouts;
