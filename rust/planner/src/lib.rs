@@ -18,3 +18,4 @@ pub mod picture;
 pub mod plan;
 pub mod text;
 pub mod tracing;
+pub mod words;

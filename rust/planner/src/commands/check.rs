@@ -6,6 +6,7 @@ use crate::fault::{Fault, Status};
 use crate::findings::{findings, Finding};
 use crate::json::Json;
 use crate::loading::{load, Failure, RefusedSite, Site};
+use crate::words::counted;
 use std::io;
 
 /// What `klumdray check --help` says.
@@ -43,55 +44,43 @@ pub fn run(words: &[String], streams: &mut Streams<'_>) -> io::Result<Status> {
         Ok(arguments) => arguments,
         Err(fault) => return streams.faulty(&[fault]),
     };
-    match load(&file) {
-        Err(Failure::Faulty(faults)) => streams.faulty(&faults),
+    let site = match load(&file) {
+        Ok(site) => site,
         Err(Failure::Refused(refused)) => {
-            let answer = if json {
-                refused_json(&refused).to_string()
-            } else {
-                refused.to_string()
-            };
-            writeln!(streams.output, "{answer}")?;
-            Ok(Status::Refused)
+            writeln!(streams.output, "{}", refused_words(&refused, json))?;
+            return Ok(Status::Refused);
         }
-        Err(Failure::Broken) => Ok(Status::Broken),
-        Ok(site) => {
-            // A well-formed site and counts in range draw no refusal.
-            let Ok(findings) = findings(&site) else {
-                return Ok(Status::Broken);
-            };
-            let answer = if json {
-                format!("{}\n", well_formed_json(&site, &findings))
-            } else {
-                well_formed(&site, &findings)
-            };
-            streams.output.write_all(answer.as_bytes())?;
-            Ok(Status::Answered)
-        }
-    }
+        Err(failure) => return streams.failed(&failure),
+    };
+    let findings = match findings(&site) {
+        Ok(findings) => findings,
+        Err(refusal) => return streams.broken(&format!("the site is accepted, then {refusal}")),
+    };
+    let answer = if json {
+        format!("{}\n", object(&site, &findings))
+    } else {
+        told(&site, &findings)
+    };
+    streams.output.write_all(answer.as_bytes())?;
+    Ok(Status::Answered)
 }
 
 /// The site's file, and whether JSON is wanted.
 fn arguments(words: &[String]) -> Result<(String, bool), Fault> {
     let arguments = Arguments::read(words, &KNOWN)?;
-    let expected = |found: &str| fault("klumdray check", "one site's file", found);
     match &arguments.plain[..] {
-        [] => Err(expected("none")),
         [file] => Ok((file.clone(), arguments.has("--json"))),
-        [_, other, ..] => Err(expected(&format!("{} behind it", quoted(other)))),
+        [] => Err(fault("check", "a site's file", "none")),
+        [_, other, ..] => Err(fault("check", "one site's file", &quoted(other))),
     }
 }
 
-fn well_formed(site: &Site, findings: &[Finding]) -> String {
+fn told(site: &Site, findings: &[Finding]) -> String {
     let (file, plan) = (&site.file, &site.text.plan);
     let mut answer = String::new();
     for Finding { line, words, .. } in findings {
         answer += &format!("{file}:{line}: note: {words}\n");
     }
-    let counted = |count: usize, noun: &str| match count {
-        1 => format!("1 {noun}"),
-        _ => format!("{count} {noun}s"),
-    };
     let couplers = counted(plan.couplers.len(), "coupler");
     let tables = counted(plan.project.len() + plan.own.len(), "filter table");
     let project = plan.project.len();
@@ -99,7 +88,7 @@ fn well_formed(site: &Site, findings: &[Finding]) -> String {
         + &format!("{file}: well-formed: {couplers}, {tables} ({project} in the project store)\n")
 }
 
-fn well_formed_json(site: &Site, findings: &[Finding]) -> Json {
+fn object(site: &Site, findings: &[Finding]) -> Json {
     let plan = &site.text.plan;
     let notes = findings.iter().map(|finding| {
         Json::Object(vec![
@@ -117,13 +106,11 @@ fn well_formed_json(site: &Site, findings: &[Finding]) -> Json {
     ])
 }
 
-fn refused_json(refused: &RefusedSite) -> Json {
-    Json::Object(vec![
-        ("file", refused.file.as_str().into()),
-        ("well_formed", false.into()),
-        ("refused", refused.refusal.number().into()),
-        ("words", refused.refusal.words().into()),
-        ("line", refused.line.into()),
-        ("because", refused.because.as_str().into()),
-    ])
+fn refused_words(refused: &RefusedSite, json: bool) -> String {
+    if !json {
+        return refused.to_string();
+    }
+    let mut members = vec![("well_formed", false.into())];
+    members.extend(refused.members());
+    Json::Object(members).to_string()
 }

@@ -7,6 +7,7 @@ use super::Streams;
 use crate::address::{number, Group, Individual, Line};
 use crate::arguments::{fault, quoted, Arguments, Known};
 use crate::fault::{Fault, Status};
+use crate::json::Json;
 use crate::loading::{judge, load, translated, Failure, Site};
 use crate::picture::draw;
 use crate::tracing::{trace, Destination, Telegram};
@@ -163,7 +164,7 @@ fn answer(asked: &Asked, streams: &mut Streams<'_>) -> io::Result<Status> {
     let site = match load(&asked.file) {
         Ok(site) => site,
         Err(Failure::Refused(refused)) if asked.form == Form::Object => {
-            writeln!(streams.output, "{}", object::refused(&refused))?;
+            writeln!(streams.output, "{}", Json::Object(refused.members()))?;
             return Ok(Status::Refused);
         }
         Err(failure) => return streams.failed(&failure),

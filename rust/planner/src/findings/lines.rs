@@ -1,10 +1,11 @@
 //! Findings about what passes a coupler: each answer is the library's.
 
-use super::{and, groups_of, named, Finding, Kind};
+use super::{groups_of, named, Finding, Kind};
 use crate::address::{Group, Individual, Line};
 use crate::loading::Site;
 use crate::plan::{Class, Coupler, Direction, Groups};
 use crate::tracing::{Destination, Telegram};
+use crate::words::together;
 use klumdray::tracer::{why, Reason, Why};
 use klumdray::Refusal;
 
@@ -69,7 +70,7 @@ pub fn one_way(site: &Site) -> Result<Vec<Finding>, Refusal> {
 
 fn one_way_words(line: Line, closed: Direction, classes: &[Class]) -> String {
     let names: Vec<String> = classes.iter().map(|class| telegrams(*class)).collect();
-    let names = and(&names);
+    let names = together(&names);
     match closed {
         Direction::Down => {
             format!("{names} leave line {line} but none come in: no answer gets there")

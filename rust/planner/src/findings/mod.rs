@@ -6,6 +6,7 @@ mod tables;
 use crate::address::{Group, Line};
 use crate::loading::Site;
 use crate::plan::Class;
+use crate::words::{plural, together};
 use klumdray::Refusal;
 
 /// Kinds of findings, in the order in which those of one line of the text are told.
@@ -91,20 +92,10 @@ const TOLD: usize = 4;
 
 /// Lines in a row with a noun before them: "coupler 4.7", "couplers 4.7, 4.8 and 4.9".
 fn named(noun: &str, lines: &[Line]) -> String {
-    let plural = if lines.len() == 1 { "" } else { "s" };
     let mut names: Vec<String> = lines.iter().map(Line::to_string).collect();
     if names.len() > TOLD {
         let rest = names.split_off(TOLD - 1);
         names.push(format!("{} more", rest.len()));
     }
-    format!("{noun}{plural} {}", and(&names))
-}
-
-/// Names in a row: "a, b and c".
-fn and(names: &[String]) -> String {
-    match names {
-        [] => String::new(),
-        [one] => one.clone(),
-        [first @ .., last] => format!("{} and {last}", first.join(", ")),
-    }
+    format!("{} {}", plural(lines.len(), noun), together(&names))
 }

@@ -2,20 +2,9 @@
 
 use crate::address::Line;
 use crate::json::Json;
-use crate::loading::{RefusedSite, Site};
+use crate::loading::Site;
 use crate::tracing::{Destination, Stop, Telegram, Traced};
 use klumdray::tracer::{Listed, Reason};
-
-/// A site that the library refuses.
-pub fn refused(refused: &RefusedSite) -> Json {
-    Json::Object(vec![
-        ("refused", refused.refusal.number().into()),
-        ("words", refused.refusal.words().into()),
-        ("file", refused.file.as_str().into()),
-        ("line", refused.line.into()),
-        ("because", refused.because.as_str().into()),
-    ])
-}
 
 /// A telegram that was traced.
 pub fn traced(site: &Site, telegram: &Telegram, traced: &Traced) -> Json {

@@ -3,6 +3,7 @@
 use crate::address::{Individual, Line};
 use crate::loading::Site;
 use crate::tracing::{Destination, Stop, Telegram, Traced};
+use crate::words::counted;
 use klumdray::tracer::{Listed, Reason};
 use std::collections::BTreeSet;
 
@@ -138,9 +139,4 @@ fn label(site: &Site, line: Line) -> &str {
 
 fn in_quotes(text: Option<&str>) -> String {
     text.map(|text| format!(" \"{text}\"")).unwrap_or_default()
-}
-
-fn counted(number: usize, what: &str) -> String {
-    let s = if number == 1 { "" } else { "s" };
-    format!("{number} {what}{s}")
 }
