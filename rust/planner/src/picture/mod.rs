@@ -32,12 +32,14 @@ pub fn draw(site: &Site, telegram: &Telegram, traced: &Traced) -> String {
         ("viewBox", &format!("0 0 {width} {height}")),
         ("font-family", &"sans-serif"),
     ];
+    let rows = scene.header();
     svg.group("svg", attributes, |svg| {
+        svg.text_element("title", &[], &rows.join("; "));
         svg.element(
             "rect",
             &[("width", &width), ("height", &height), ("fill", &"#ffffff")],
         );
-        header(svg, &scene, inner);
+        header(svg, &rows, inner);
         tree(svg, &scene, &layout);
         svg.group("g", &[("class", &"legend")], |svg| {
             legend::legend(svg, below)
@@ -46,16 +48,7 @@ pub fn draw(site: &Site, telegram: &Telegram, traced: &Traced) -> String {
     svg.into_text()
 }
 
-fn header(svg: &mut Svg, scene: &Scene<'_>, room: i32) {
-    let Telegram { from, to, count } = scene.telegram;
-    let telegram = format!("{to} from {from}, count {count}");
-    let lines = counted(scene.traced.reached.len(), "line");
-    let forwardings = counted(scene.traced.forwardings, "forwarding");
-    let mut rows = vec![telegram.clone(), format!("{lines} reached, {forwardings}")];
-    let title = scene.site.text.title.clone();
-    let all = title.iter().chain([&telegram]).cloned().collect::<Vec<_>>();
-    svg.text_element("title", &[], &all.join(": "));
-    rows.splice(0..0, title);
+fn header(svg: &mut Svg, rows: &[String], room: i32) {
     let mut at = Point { x: MARGIN, y: 20 };
     for (row, text) in rows.iter().enumerate() {
         let size = if row == 0 { 22 } else { 16 };
@@ -67,10 +60,6 @@ fn header(svg: &mut Svg, scene: &Scene<'_>, room: i32) {
         at.y += size + 8;
         svg.text(at, letters, &cut(text, letters, room));
     }
-}
-
-fn counted(number: usize, what: &str) -> String {
-    format!("{number} {what}{}", if number == 1 { "" } else { "s" })
 }
 
 /// The couplers lie below, so that a line's border is drawn over the ends of its links.
