@@ -16,6 +16,7 @@ use planner::text::SiteText;
 use planner::tracing::{lines, trace, Destination, Telegram, Traced};
 use shapes::{area, corners, ends, parts, Area};
 use std::collections::BTreeSet;
+use std::sync::OnceLock;
 use support::generator::{seed, Generator};
 use support::sites::well_formed_site;
 use support::{below, one_of, shuffle};
@@ -53,11 +54,11 @@ impl Case {
         lines(&self.site, &self.telegram)
     }
 
-    /// The one element that an attribute names a line in.
+    /// The one element below the root that an attribute names a line in.
     fn of_line(&self, attribute: &str, line: Line) -> &Element {
-        let all = self.picture.all().into_iter();
+        let children = self.picture.children.iter();
         let name = line.to_string();
-        let named = all.filter(|element| element.attribute(attribute) == Some(&name));
+        let named = children.filter(|element| element.attribute(attribute) == Some(&name));
         let named: Vec<&Element> = named.collect();
         assert_eq!(named.len(), 1, "{attribute} {line}");
         named[0]
@@ -115,12 +116,14 @@ fn some_case(generator: &mut Generator) -> Case {
     Case::new(text, telegram)
 }
 
-/// Random sites, each with a telegram.
-fn for_each(mut holds: impl FnMut(&Case)) {
-    let mut generator = Generator::new(seed());
-    for _ in 0..SITES {
-        holds(&some_case(&mut generator));
-    }
+/// Random sites, each with a telegram, drawn once for all tests.
+fn for_each(holds: impl FnMut(&Case)) {
+    static CASES: OnceLock<Vec<Case>> = OnceLock::new();
+    let cases = CASES.get_or_init(|| {
+        let mut generator = Generator::new(seed());
+        (0..SITES).map(|_| some_case(&mut generator)).collect()
+    });
+    cases.iter().for_each(holds);
 }
 
 fn texts(element: &Element) -> Vec<&str> {
