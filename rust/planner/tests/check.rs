@@ -66,7 +66,7 @@ fn says(ended: &Ended, status: Status, output: &str, errors: &str) {
 fn the_plant() {
     let file = example("plant.site");
     let output = "\
-SITE:33: note: broadcasts come in to line 2.2 but none leave: nothing there can answer
+SITE:33: note: broadcasts come into line 2.2 but none leave: nothing there can answer
 SITE:58: note: main line 5.0 has no coupler, which cuts line 5.1 off from the backbone
 SITE: well-formed: 10 couplers, 3 filter tables (0 in the project store)
 ";
@@ -92,37 +92,38 @@ SITE: well-formed: 144 couplers, 15 filter tables (3 in the project store)
     );
 }
 
-/// The litres of each building come to the head station, and into no building but where the campus
-/// says so.
+/// What the campus says of itself: the litres of each building come to the head station and into no
+/// other building, but for the residences and the heating plant's own lines; stairwell lights stay in
+/// the building; residents send nothing out.
 #[test]
-fn the_litres_of_the_campus() {
+fn the_ways_of_the_campus() {
     let site = load(&example("campus.site")).expect("a well-formed site");
-    for (from, groups, reached) in [
-        ("1.12", "2/2/16 - 2/2/31", "0.0 0.1 1.0 1.12"),
-        ("5.10", "2/2/80 - 2/2/95", "0.0 0.1 5.0 5.10"),
-        ("8.9", "2/2/128 - 2/2/143", "0.0 0.1 8.0 8.9"),
-        ("9.11", "2/2/144 - 2/2/159", "0.0 0.1 9.0 9.11 10.0 10.11"),
-        ("10.11", "2/2/160 - 2/2/175", "0.0 0.1 9.0 9.11 10.0 10.11"),
-        ("12.9", "2/2/192 - 2/2/207", "0.0 0.1 12.0 12.9"),
-        (
-            "4.7",
-            "2/2/64 - 2/2/79",
-            "0.0 0.1 4.0 4.1 4.2 4.3 4.4 4.5 4.6 4.7 4.8 4.9",
-        ),
+    let heating = "0.0 0.1 4.0 4.1 4.2 4.3 4.4 4.5 4.6 4.7 4.8 4.9";
+    let residences = "0.0 0.1 9.0 9.11 10.0 10.11";
+    for (from, first, last, reached) in [
+        ("1.12", "2/2/16", "2/2/31", "0.0 0.1 1.0 1.12"),
+        ("4.7", "2/2/64", "2/2/79", heating),
+        ("5.10", "2/2/80", "2/2/95", "0.0 0.1 5.0 5.10"),
+        ("8.9", "2/2/128", "2/2/143", "0.0 0.1 8.0 8.9"),
+        ("9.11", "2/2/144", "2/2/159", residences),
+        ("10.11", "2/2/160", "2/2/175", residences),
+        ("12.9", "2/2/192", "2/2/207", "0.0 0.1 12.0 12.9"),
+        ("3.1", "1/7/0", "1/7/255", "3.0 3.1"),
+        ("9.3", "0/0/0", "0/7/255", "9.3"),
     ] {
-        let line = Line::read(from).expect(from);
-        let (first, last) = groups.split_once(" - ").expect(groups);
         let [first, last] = [first, last].map(|group| Group::read(group).expect(group));
         for group in first.0..=last.0 {
             let telegram = Telegram {
-                from: line,
+                from: Line::read(from).expect(from),
                 to: Destination::Group(Group(group)),
                 count: 6,
             };
-            let traced = trace(&site, &telegram).expect("a trace");
-            let lines = traced.reached.iter();
-            let lines = lines.map(|listed| Line(listed.line).to_string());
-            assert_eq!(lines.collect::<Vec<_>>().join(" "), reached, "{group}");
+            let lines = trace(&site, &telegram)
+                .expect("a trace")
+                .reached
+                .into_iter();
+            let lines: Vec<String> = lines.map(|listed| Line(listed.line).to_string()).collect();
+            assert_eq!(lines.join(" "), reached, "{} from {from}", Group(group));
         }
     }
 }
