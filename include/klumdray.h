@@ -10,7 +10,10 @@
  * no memory of its own between calls. A room or a memory must not overlap anything else lent to
  * the same call. Calls may be made from several threads.
  *
- * Refusals. Every answer carries a number: 0 is not a refusal. A refused call has written nothing.
+ * Numbers. "10h" is hexadecimal. A field of two octets has the high octet first.
+ *
+ * Refusals. Every answer but that of klumdray_check_octet, which is never refused, carries a
+ * number. A refused call has written nothing.
  *
  *    0  not a refusal
  *    1  fewer octets than the frame needs
@@ -54,13 +57,32 @@
  * A writer's answer: bits 0 to 7 the number, bits 8 to 63 the octets written, 0 with a refusal.
  * The frame is the first octets of the room; those behind it stay as they were.
  *
+ * A line is named by one octet, area times 16 plus line: line 4.7 is 47h. The coupler of line n,
+ * 01h to FFh, has the own address n followed by 00h. Its sub side is n. Its main side is n with the
+ * low four bits cleared if those are not zero, else 00h: of 47h it is 40h, of 40h it is 00h.
+ *
+ * A coupler's codes are a block of 8 octets: four for main to sub, then four for sub to main.
+ *
+ *   octets 0 and 4  individual addresses: 0, 1, 2
+ *   octets 1 and 5  broadcast, which is group 0000h: 0, 2
+ *   octets 2 and 6  groups 0001h to 6FFFh: 0, 1, 2
+ *   octets 3 and 7  groups 7000h to FFFFh: 0, 1, 2
+ *
+ * Code 0 is closed, 2 open. Code 1 for groups: forward if the group's bit in the filter table is
+ * one. Code 1 for individual addresses: where n mod 16 is not 0, down (main to sub) if the
+ * destination's high octet is n, up if it isn't; otherwise down if the destination's area is the
+ * coupler's area, up if it isn't.
+ *
+ * A filter table is 8,192 octets. The bit of group g is bit g mod 8 (bit 0 is worth 1) of octet
+ * g div 8. Broadcast is never looked up in it.
+ *
  * A step's answer. With a refusal every bit above 7 is 0.
  *
  *   bits  0 to  7  the number
  *   bits  8 to 15  acknowledgement: CCh, or 0 for none
  *   bit  16        for the coupler itself
  *   bits 17 to 31  0
- *   bits 32 to 63  octets forwarded, the first of the room; 0 if none
+ *   bits 32 to 63  octets forwarded, the first of the room, at most 270; 0 if none
  *
  * A step's memory is a block of 530 octets, which the caller lends to every step of one coupler. At
  * the start all of them are 0.
@@ -70,32 +92,34 @@
  *   octets 265 to 266  size of the frame remembered of the sub side, high octet first; 0: none
  *   octets 267 to 529  that frame, from octet 267 on
  *
- * A size above 263 counts as none. After a TP1 frame that is not refused, the receiving side's size
- * is the frame's and its octets are the frame; those behind the frame and the other side's stay.
- * After a frame from IP, and after a refusal, the whole block is as it was.
+ * A size above 263 counts as none. No step leaves one, nor a size from 1 to 7, which counts as a
+ * frame whose missing octets are 0. After a TP1 frame that is not refused, the receiving side's
+ * size is the frame's and its octets are the frame; those behind the frame and the other side's
+ * stay. After a frame from IP, and after a refusal, the whole block is as it was.
  *
  * A site is a record of 12 octets for each coupler fitted, 0 to 255 of them, in any order.
  *
  *   octets  0 to  1  mark: 43h 50h
  *   octet   2        line, 01h to FFh, each once at most
- *   octets  3 to  6  four codes main to sub, as in a step
+ *   octets  3 to  6  four codes main to sub, in the order above
  *   octets  7 to 10  four codes sub to main
  *   octet  11        table number: 0 to 127 count in the project store, 128 to 254 in the site's
  *                    own store from its start, FFh is none
  *
- * A store is filter tables of 8,192 octets one after the other, at most 128 in the project store
- * and 127 in the site's own. FFh is allowed where no group code of that record is 1; every other
- * number must lie in its store.
+ * A store is filter tables one after the other, a multiple of 8,192 octets: at most 128 tables in
+ * the project store and 127 in the site's own. FFh is allowed where no group code of that record
+ * is 1; every other number must lie in its store.
  *
  * A trace's answer. With a refusal every bit above 7 is 0.
  *
  *   bits  0 to  7  the number
  *   bits  8 to 23  how many lines are listed, 1 to 256
- *   bits 24 to 39  the forwardings made on the site
+ *   bits 24 to 39  the forwardings made on the site: the lines listed less one
  *   bits 40 to 63  0
  *
  * The list is the first octets of the room, three for each listed line, in rising order of the
- * lines: line, count on arrival, couplers crossed. The octets behind it stay as they were.
+ * lines: line, count on arrival (7 where the query's is 7, else that less the couplers crossed),
+ * couplers crossed (0 to 4). The octets behind it stay as they were.
  *
  * A why's answer is one number of 32 bits. With a refusal, and where the line is reached, every
  * other bit is 0.
@@ -137,6 +161,7 @@ uint64_t klumdray_tp1_read(const uint8_t *octets, size_t n);
 /*
  * Writes a TP1 L_Data frame to the front of the room.
  *   extended 0, 1   first_sending 0, 1   priority 0 to 3   group 0, 1   count 0 to 7
+ *   source, destination: any
  *   payload: TPCI onward, 1 to 16 octets standard, 1 to 255 extended
  * Refusals: a number or the payload's length outside its range (14); then the room below the
  * frame's size (13), which is payload length + 7 standard, + 8 extended.
@@ -182,12 +207,13 @@ uint64_t klumdray_routing_write(uint8_t code, uint8_t error_mark, uint8_t extend
                                 uint8_t group, uint16_t destination, uint8_t count,
                                 const uint8_t *payload, size_t n, uint8_t *room, size_t m);
 
-/* The coupler's numbers and sizes. */
+/* The coupler's numbers and sizes; a TP1 frame is at most KLUMDRAY_FRAME_SIZE octets long. */
 enum {
     KLUMDRAY_MAIN = 0,
     KLUMDRAY_SUB = 1,
     KLUMDRAY_TP1 = 0,
     KLUMDRAY_IP = 1,
+    KLUMDRAY_FRAME_SIZE = 263,
     KLUMDRAY_CODES_SIZE = 8,
     KLUMDRAY_TABLE_SIZE = 8192,
     KLUMDRAY_MEMORY_SIZE = 530,
@@ -198,17 +224,23 @@ enum {
  * One coupler step: a frame received from one side is acknowledged or not, forwarded to the other
  * side or not, and remembered.
  *   line: the coupler's own, 01h to FFh
- *   codes: 8 octets, four for main to sub and then four for sub to main, in the order
- *     individual (0, 1, 2), broadcast (0, 2), groups 0001h to 6FFFh (0, 1, 2), groups 7000h to
- *     FFFFh (0, 1, 2)
- *   table: the filter table, 8,192 octets, or 0 where no group code is 1
- *   side: the receiving side, 0 main, 1 sub   medium: of the main side, 0 TP1, 1 IP
+ *   codes: 8 octets, laid out as above
+ *   table: the filter table, 8,192 octets, or 0 octets where none of the four group codes is 1
+ *   side: the receiving side, 0 main, 1 sub
+ *   medium: of the main side, 0 TP1, 1 IP; the sub side is TP1
  *   memory: 530 octets, laid out as above
  *   octets: a TP1 frame, or a routing datagram where side is 0 and medium is 1
  *   room: at least 272 octets
- * Refusals, the first that applies: codes not 8 or memory not 530 octets long (14), 15, 18, side or
- * medium (14), room (13), then as klumdray_tp1_read or klumdray_routing_read. A refused step leaves
- * room and memory as they were.
+ * A frame with AT 0 to the coupler's own address is for itself and never forwarded, under any code.
+ * Count 0 is never forwarded; counts 1 to 6 go on lowered by one, 7 stays. A forwarded frame keeps
+ * format, priority, addresses and payload and says first sending; on IP it is a plain indication in
+ * a routing datagram. A TP1 frame marked repeated is a repetition if the frame remembered of its
+ * side has the same source, destination and AT: it is not forwarded. A TP1 frame gets CCh exactly
+ * if it is for the coupler itself or, repetition or not, its address, codes and count allow
+ * forwarding. IP has neither memory nor acknowledgement.
+ * Refusals, the first that applies: codes not 8 or memory not 530 octets long (14), line or a code
+ * (15), the table's length (18), side or medium (14), room (13), then as klumdray_tp1_read or, from
+ * IP, klumdray_routing_read. A refused step leaves room and memory as they were.
  */
 uint64_t klumdray_step(uint8_t line, const uint8_t *codes, size_t codes_length,
                        const uint8_t *table, size_t table_length, uint8_t side, uint8_t medium,
@@ -226,7 +258,8 @@ enum {
 
 /*
  * Lists the lines of a site that a telegram reaches from its starting line, which is always listed.
- *   start: the starting line, any   kind: 0 individual, 1 group   destination: any
+ *   start: the starting line, any   kind: 0 individual, 1 group
+ *   destination: any; group 0000h is broadcast
  *   count: on the starting line, 0 to 7
  *   site, project, own: the records, the project store and the site's own store, laid out as above
  *   room: at least 768 octets
@@ -254,6 +287,33 @@ uint32_t klumdray_why(uint8_t start, uint8_t kind, uint16_t destination, uint8_t
 static inline uint8_t klumdray_number(uint64_t answer)
 {
     return (uint8_t)(answer & 0xFFu);
+}
+
+/* What a number says: the words of the table at the head of this file. */
+static inline const char *klumdray_words(uint8_t number)
+{
+    static const char *const words[] = {
+        "not a refusal",
+        "fewer octets than the frame needs",
+        "TP1 control octet of another kind",
+        "EFF not 0000",
+        "LG octet 255",
+        "octets left after the frame",
+        "wrong check octet",
+        "message code not 11h, 2Eh, 29h; in routing, not 29h",
+        "a = 255",
+        "cEMI standard with LG above 15",
+        "KNXnet/IP header length not 06h or version not 10h",
+        "service not 0530h",
+        "total length differs from the datagram's",
+        "lent room too small",
+        "a number given by the caller is outside its range",
+        "own line 00h, or a setting code not allowed",
+        "site length not a multiple of 12, or a wrong mark",
+        "one line twice in a site",
+        "filter table missing or of wrong size"
+    };
+    return number < sizeof words / sizeof words[0] ? words[number] : "not a number of these calls";
 }
 
 /* A writer's answer: the octets written. */
@@ -322,6 +382,13 @@ static inline uint8_t klumdray_message(uint64_t answer)
     return (uint8_t)(answer >> 56 & 3u);
 }
 
+/* The message code as the octet that the writers take: 11h, 2Eh or 29h; 00h if there is none. */
+static inline uint8_t klumdray_message_code(uint64_t answer)
+{
+    static const uint8_t codes[] = {0x00, 0x11, 0x2E, 0x29};
+    return codes[klumdray_message(answer)];
+}
+
 static inline uint8_t klumdray_error_mark(uint64_t answer)
 {
     return (uint8_t)(answer >> 58 & 1u);
@@ -338,7 +405,8 @@ static inline size_t klumdray_routing_payload_start(uint64_t answer, size_t n)
     return n - klumdray_payload_length(answer);
 }
 
-/* Where additional information begins, and how many octets it has. */
+/* Where additional information begins in the n octets of an accepted message or datagram, and how
+ * many octets it has. */
 static inline size_t klumdray_cemi_information_start(void)
 {
     return 2u;
@@ -380,7 +448,7 @@ static inline size_t klumdray_forwarded(uint64_t answer)
 /* Where a side's part of the memory begins: its size, then its frame. */
 static inline const uint8_t *klumdray_remembered_part(const uint8_t *memory, uint8_t side)
 {
-    return memory + (side == KLUMDRAY_SUB ? 265u : 0u);
+    return memory + (side == KLUMDRAY_SUB ? KLUMDRAY_MEMORY_SIZE / 2 : 0);
 }
 
 /* The size of the frame remembered of a side, 0 if there is none, and where it begins. */
@@ -388,7 +456,7 @@ static inline size_t klumdray_remembered_size(const uint8_t *memory, uint8_t sid
 {
     const uint8_t *part = klumdray_remembered_part(memory, side);
     size_t size = (size_t)part[0] << 8 | part[1];
-    return size > 263u ? 0u : size;
+    return size > KLUMDRAY_FRAME_SIZE ? 0u : size;
 }
 
 static inline const uint8_t *klumdray_remembered(const uint8_t *memory, uint8_t side)

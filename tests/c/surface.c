@@ -77,6 +77,7 @@ static void accepted(void)
     check("P1 has LG 4", klumdray_payload_length(answer) == 5);
     check("P1's payload begins at octet 6", klumdray_tp1_payload_start(answer) == 6);
     check("P1's other bits are 0", answer >> 56 == 0);
+    check("P1 has no message code", klumdray_message_code(answer) == 0);
     check("P1's check octet", klumdray_check_octet(P1, sizeof P1 - 1) == 0xE5);
 }
 
@@ -97,6 +98,15 @@ static void refused(void)
     check("P6 is 4", klumdray_tp1_read(p6, sizeof p6) == 4);
     check("P1 without its last octet is 1", klumdray_tp1_read(P1, sizeof P1 - 1) == 1);
     check("P1 with one octet more is 5", klumdray_tp1_read(longer, sizeof longer) == 5);
+}
+
+static void words(void)
+{
+    check("0 in words", strcmp(klumdray_words(0), "not a refusal") == 0);
+    check("6 in words", strcmp(klumdray_words(6), "wrong check octet") == 0);
+    check("18 in words", strcmp(klumdray_words(18), "filter table missing or of wrong size") == 0);
+    check("19 is no number", strcmp(klumdray_words(19), "not a number of these calls") == 0);
+    check("nor is 255", strcmp(klumdray_words(255), "not a number of these calls") == 0);
 }
 
 static void written(void)
@@ -131,6 +141,7 @@ static void datagram(void)
     check("P7 has destination 1234h", klumdray_destination(answer) == 0x1234);
     check("P7 has count 4", klumdray_count(answer) == 4);
     check("P7 is an indication", klumdray_message(answer) == KLUMDRAY_INDICATION);
+    check("P7's code is the octet 29h", klumdray_message_code(answer) == 0x29);
     check("P7 has no error mark", klumdray_error_mark(answer) == 0);
     check("P7's other bits are 0", answer >> 59 == 0);
     check("P7 has 5 octets of payload", klumdray_payload_length(answer) == 5);
@@ -149,6 +160,7 @@ static void message(void)
     uint64_t answer = klumdray_cemi_read(confirmation, n);
     check("a confirmation is accepted", klumdray_number(answer) == 0);
     check("it is a confirmation", klumdray_message(answer) == KLUMDRAY_CONFIRMATION);
+    check("its code is the octet 2Eh", klumdray_message_code(answer) == 0x2E);
     check("it has its error mark", klumdray_error_mark(answer) == 1);
     check("its information has 3 octets", klumdray_cemi_information_length(answer, n) == 3);
     check("its information begins at octet 2", klumdray_cemi_information_start() == 2);
@@ -271,6 +283,21 @@ static void steps_from_tp1(void)
     answer = step(&c, KLUMDRAY_SUB, KLUMDRAY_TP1, repeated, sizeof repeated);
     check("from the other side it is closed", answer == 0);
     check("and remembered", klumdray_remembered_size(c.memory, KLUMDRAY_SUB) == sizeof repeated);
+}
+
+/* Octets that the header has a word for although no step leaves them so. */
+static void steps_with_odd_memories(void)
+{
+    static const uint8_t repeated[] = {0x90, 0xAF, 0xFE, 0x00, 0x00, 0x60, 0x00, 0x5E};
+    struct coupler c = coupler(0x11, 2);
+    memcpy(c.memory + 2, repeated, 3);
+    c.memory[1] = 3;
+    check("of a size of 3 the missing octets are 0",
+          step(&c, KLUMDRAY_MAIN, KLUMDRAY_TP1, repeated, sizeof repeated) == 0xCC00);
+    c.memory[0] = 1;
+    check("a size of 264 is none", klumdray_remembered_size(c.memory, KLUMDRAY_MAIN) == 0);
+    check("and no frame is repeated",
+          klumdray_forwarded(step(&c, KLUMDRAY_MAIN, KLUMDRAY_TP1, repeated, 8)) == 8);
 }
 
 static void steps_for_itself_and_to_ip(void)
@@ -532,12 +559,14 @@ int main(void)
     empty_slices_of_the_others();
     accepted();
     refused();
+    words();
     written();
     datagram();
     message();
     datagram_written();
     steps_from_ip();
     steps_from_tp1();
+    steps_with_odd_memories();
     steps_for_itself_and_to_ip();
     steps_with_a_table();
     refused_steps();

@@ -5,6 +5,15 @@ use crate::coupler::Side;
 use crate::tracer::{Reason, Why};
 use crate::{Meaning, Refusal};
 
+/// An answer whose number is no refusal's.
+#[inline]
+fn accepted(answer: u64) -> Result<u64, Refusal> {
+    match answer as u8 {
+        0 => Ok(answer),
+        number => Err(Refusal::answered(number)),
+    }
+}
+
 /// A reader's answer that is not a refusal.
 #[derive(Clone, Copy)]
 pub(crate) struct Reading(u64);
@@ -12,10 +21,7 @@ pub(crate) struct Reading(u64);
 impl Reading {
     #[inline]
     pub(crate) fn accepted(answer: u64) -> Result<Reading, Refusal> {
-        match answer as u8 {
-            0 => Ok(Reading(answer)),
-            number => Err(Refusal::from_number(number)),
-        }
+        accepted(answer).map(Reading)
     }
 
     #[inline]
@@ -61,10 +67,7 @@ impl Reading {
 /// The octets written, or the refusal, of a writer's answer.
 #[inline]
 pub(crate) fn written(answer: u64) -> Result<usize, Refusal> {
-    match answer as u8 {
-        0 => Ok((answer >> 8) as usize),
-        number => Err(Refusal::from_number(number)),
-    }
+    accepted(answer).map(|answer| (answer >> 8) as usize)
 }
 
 /// A step's answer that is not a refusal.
@@ -74,10 +77,7 @@ pub(crate) struct Step(u64);
 impl Step {
     #[inline]
     pub(crate) fn accepted(answer: u64) -> Result<Step, Refusal> {
-        match answer as u8 {
-            0 => Ok(Step(answer)),
-            number => Err(Refusal::from_number(number)),
-        }
+        accepted(answer).map(Step)
     }
 
     #[inline]
@@ -103,10 +103,7 @@ pub(crate) struct Trace(u64);
 impl Trace {
     #[inline]
     pub(crate) fn accepted(answer: u64) -> Result<Trace, Refusal> {
-        match answer as u8 {
-            0 => Ok(Trace(answer)),
-            number => Err(Refusal::from_number(number)),
-        }
+        accepted(answer).map(Trace)
     }
 
     #[inline]
@@ -123,17 +120,17 @@ impl Trace {
 /// What a why's answer says, or the refusal.
 #[inline]
 pub(crate) fn why(answer: u32) -> Result<Why, Refusal> {
-    let reason = match (answer as u8, (answer >> 8) as u8) {
-        (0, 0) => return Ok(Why::Reached),
-        (0, 1) => Reason::NotFitted,
-        (0, 2) => Reason::OwnAddress,
-        (0, 3) => Reason::Closed,
-        (0, 4) => Reason::NotBelow,
-        (0, 5) => Reason::NotAbove,
-        (0, 6) => Reason::NotInTable,
-        (0, 7) => Reason::CountUsedUp,
-        (0, _) => unreachable!("a reason is 0 to 7"),
-        (number, _) => return Err(Refusal::from_number(number)),
+    accepted(answer.into())?;
+    let reason = match (answer >> 8) as u8 {
+        0 => return Ok(Why::Reached),
+        1 => Reason::NotFitted,
+        2 => Reason::OwnAddress,
+        3 => Reason::Closed,
+        4 => Reason::NotBelow,
+        5 => Reason::NotAbove,
+        6 => Reason::NotInTable,
+        7 => Reason::CountUsedUp,
+        _ => unreachable!("a reason is 0 to 7"),
     };
     let from = match answer >> 24 & 1 {
         0 => Side::Main,

@@ -1,9 +1,15 @@
 //! cEMI L_Data request, confirmation and indication.
 
+use std::fmt;
+
 use crate::answer::{written, Reading};
 use crate::{raw, Meaning, Refusal};
 
 /// A message code.
+///
+/// ```
+/// assert_eq!(klumdray::cemi::Code::Request.to_string(), "request");
+/// ```
 #[derive(Clone, Copy, Debug, PartialEq, Eq, Hash)]
 pub enum Code {
     /// L_Data request, 11h.
@@ -27,6 +33,29 @@ impl Code {
             Code::Confirmation => 0x2e,
             Code::Indication => 0x29,
         }
+    }
+
+    /// The code that an octet stands for.
+    ///
+    /// ```
+    /// use klumdray::cemi::Code;
+    /// assert_eq!(Code::from_octet(0x29), Some(Code::Indication));
+    /// assert_eq!(Code::from_octet(0x2b), None);
+    /// ```
+    #[inline]
+    pub fn from_octet(octet: u8) -> Option<Code> {
+        let codes = [Code::Request, Code::Confirmation, Code::Indication];
+        codes.into_iter().find(|code| code.octet() == octet)
+    }
+}
+
+impl fmt::Display for Code {
+    fn fmt(&self, f: &mut fmt::Formatter<'_>) -> fmt::Result {
+        f.write_str(match self {
+            Code::Request => "request",
+            Code::Confirmation => "confirmation",
+            Code::Indication => "indication",
+        })
     }
 }
 

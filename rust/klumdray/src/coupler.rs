@@ -1,13 +1,25 @@
 //! One coupler step: a frame received from one side is acknowledged or not, forwarded to the other
 //! side or not, and remembered.
 
-use crate::answer::Step;
-use crate::{raw, Refusal};
+use std::fmt;
 
-/// The octets of a memory: for each side two of size and the largest frame's.
-const SIZE: usize = 530;
+use crate::answer::Step;
+use crate::{raw, tp1, Refusal};
+
+/// The octets of a filter table. The bit of group g is bit g mod 8 of octet g div 8.
+pub const TABLE_SIZE: usize = 8192;
+
+/// The octets of a memory: for each side two of size and the longest frame's.
+pub const MEMORY_SIZE: usize = 2 * (2 + tp1::FRAME_SIZE);
+
+/// The octets that a step's room has at the least.
+pub const ROOM_SIZE: usize = 272;
 
 /// A side of the coupler.
+///
+/// ```
+/// assert_eq!(klumdray::coupler::Side::Sub.to_string(), "sub");
+/// ```
 #[derive(Clone, Copy, Debug, PartialEq, Eq, Hash)]
 pub enum Side {
     /// The side of the line above, or of the backbone.
@@ -23,6 +35,15 @@ impl Side {
             Side::Main => 0,
             Side::Sub => 1,
         }
+    }
+}
+
+impl fmt::Display for Side {
+    fn fmt(&self, f: &mut fmt::Formatter<'_>) -> fmt::Result {
+        f.write_str(match self {
+            Side::Main => "main",
+            Side::Sub => "sub",
+        })
     }
 }
 
@@ -60,8 +81,8 @@ pub struct Settings<'a> {
 }
 
 /// What a coupler remembers between frames: the last accepted frame of each TP1 side.
-#[derive(Clone, Debug)]
-pub struct Memory([u8; SIZE]);
+#[derive(Clone, Debug, PartialEq, Eq)]
+pub struct Memory([u8; MEMORY_SIZE]);
 
 impl Memory {
     /// The memory at the start: no frame of either side.
@@ -73,16 +94,16 @@ impl Memory {
     /// ```
     #[inline]
     pub fn new() -> Memory {
-        Memory([0; SIZE])
+        Memory([0; MEMORY_SIZE])
     }
 
     /// The octets of the last accepted frame that was received from a side over TP1.
     ///
     /// ```
-    /// use klumdray::coupler::{step, Medium, Memory, Settings, Side};
+    /// use klumdray::coupler::{step, Medium, Memory, Settings, Side, ROOM_SIZE};
     /// let closed = Settings { line: 0x11, codes: [[0; 4]; 2], table: &[] };
     /// let octets = [0xb0, 0xaf, 0xfe, 0x00, 0x00, 0xe1, 0x01, 0x00, 0xfe];
-    /// let (mut memory, mut room) = (Memory::new(), [0; 272]);
+    /// let (mut memory, mut room) = (Memory::new(), [0; ROOM_SIZE]);
     /// step(&closed, Side::Sub, Medium::Ip, &mut memory, &octets, &mut room)?;
     /// assert_eq!(memory.remembered(Side::Sub), Some(&octets[..]));
     /// assert_eq!(memory.remembered(Side::Main), None);
@@ -90,7 +111,7 @@ impl Memory {
     /// ```
     #[inline]
     pub fn remembered(&self, side: Side) -> Option<&[u8]> {
-        let (main, sub) = self.0.split_at(SIZE / 2);
+        let (main, sub) = self.0.split_at(MEMORY_SIZE / 2);
         let part = match side {
             Side::Main => main,
             Side::Sub => sub,
@@ -125,10 +146,10 @@ pub struct Outcome<'a> {
 /// behind those forwarded stay; after a refusal all do, and the memory too.
 ///
 /// ```
-/// use klumdray::coupler::{step, Medium, Memory, Settings, Side};
+/// use klumdray::coupler::{step, Medium, Memory, Settings, Side, ROOM_SIZE};
 /// use klumdray::Refusal;
 /// let settings = Settings { line: 0xff, codes: [[0, 2, 0, 0], [0; 4]], table: &[] };
-/// let (mut memory, mut room) = (Memory::new(), [0; 272]);
+/// let (mut memory, mut room) = (Memory::new(), [0; ROOM_SIZE]);
 ///
 /// let octets = [0xb0, 0xaf, 0xfe, 0x00, 0x00, 0xe1, 0x01, 0x00, 0xfe];
 /// let outcome = step(&settings, Side::Main, Medium::Tp1, &mut memory, &octets, &mut room)?;

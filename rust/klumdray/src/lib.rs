@@ -12,7 +12,7 @@
 //! # Ok::<(), klumdray::Refusal>(())
 //! ```
 #![deny(unsafe_code)]
-#![warn(missing_docs)]
+#![deny(missing_docs)]
 
 mod answer;
 pub mod cemi;

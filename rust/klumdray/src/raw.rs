@@ -50,107 +50,96 @@ pub struct Query {
     pub count: u8,
 }
 
-/// The octets of a site, well-formed or not.
+/// A site, well-formed or not: its couplers, and the two stores that their filter tables lie in.
 #[derive(Clone, Copy, Debug, PartialEq, Eq)]
 pub struct Site<'a> {
-    /// A record of 12 octets for each coupler.
+    /// A record for each coupler, 12 octets: mark 43h 50h, line, four codes main to sub, four codes
+    /// sub to main (as in [`crate::coupler::Settings`]), table number. Numbers 0 to 127 count in the
+    /// project store, 128 to 254 in the site's own store from its start, FFh is none and allowed
+    /// where no group code of that record is 1.
     pub records: &'a [u8],
-    /// The project store: filter tables 0 to 127.
+    /// The project store: at most 128 filter tables of 8,192 octets.
     pub project: &'a [u8],
-    /// The site's own store: filter tables 128 to 254.
+    /// The site's own store: at most 127 filter tables of 8,192 octets.
     pub own: &'a [u8],
 }
 
+// Line by line as the header declares them, so that the two can be held side by side.
+#[rustfmt::skip]
 extern "C" {
     fn klumdray_check_octet(octets: *const u8, n: usize) -> u8;
     fn klumdray_tp1_read(octets: *const u8, n: usize) -> u64;
-    fn klumdray_tp1_write(
-        extended: u8,
-        first_sending: u8,
-        priority: u8,
-        source: u16,
-        group: u8,
-        destination: u16,
-        count: u8,
-        payload: *const u8,
-        n: usize,
-        room: *mut u8,
-        m: usize,
-    ) -> u64;
+    fn klumdray_tp1_write(extended: u8, first_sending: u8, priority: u8,
+                          source: u16, group: u8, destination: u16, count: u8,
+                          payload: *const u8, n: usize, room: *mut u8, m: usize) -> u64;
     fn klumdray_cemi_read(octets: *const u8, n: usize) -> u64;
-    fn klumdray_cemi_write(
-        code: u8,
-        error_mark: u8,
-        extended: u8,
-        first_sending: u8,
-        priority: u8,
-        source: u16,
-        group: u8,
-        destination: u16,
-        count: u8,
-        payload: *const u8,
-        n: usize,
-        room: *mut u8,
-        m: usize,
-    ) -> u64;
+    fn klumdray_cemi_write(code: u8, error_mark: u8, extended: u8,
+                           first_sending: u8, priority: u8, source: u16,
+                           group: u8, destination: u16, count: u8,
+                           payload: *const u8, n: usize, room: *mut u8, m: usize) -> u64;
     fn klumdray_routing_read(octets: *const u8, n: usize) -> u64;
-    fn klumdray_routing_write(
-        code: u8,
-        error_mark: u8,
-        extended: u8,
-        first_sending: u8,
-        priority: u8,
-        source: u16,
-        group: u8,
-        destination: u16,
-        count: u8,
-        payload: *const u8,
-        n: usize,
-        room: *mut u8,
-        m: usize,
-    ) -> u64;
-    fn klumdray_step(
-        line: u8,
-        codes: *const u8,
-        codes_length: usize,
-        table: *const u8,
-        table_length: usize,
-        side: u8,
-        medium: u8,
-        memory: *mut u8,
-        memory_length: usize,
-        octets: *const u8,
-        length: usize,
-        room: *mut u8,
-        room_length: usize,
-    ) -> u64;
-    fn klumdray_trace(
-        start: u8,
-        kind: u8,
-        destination: u16,
-        count: u8,
-        site: *const u8,
-        site_length: usize,
-        project: *const u8,
-        project_length: usize,
-        own: *const u8,
-        own_length: usize,
-        room: *mut u8,
-        room_length: usize,
-    ) -> u64;
-    fn klumdray_why(
-        start: u8,
-        kind: u8,
-        destination: u16,
-        count: u8,
-        site: *const u8,
-        site_length: usize,
-        project: *const u8,
-        project_length: usize,
-        own: *const u8,
-        own_length: usize,
-        line: u8,
-    ) -> u32;
+    fn klumdray_routing_write(code: u8, error_mark: u8, extended: u8,
+                              first_sending: u8, priority: u8, source: u16,
+                              group: u8, destination: u16, count: u8,
+                              payload: *const u8, n: usize, room: *mut u8, m: usize) -> u64;
+    fn klumdray_step(line: u8, codes: *const u8, codes_length: usize,
+                     table: *const u8, table_length: usize, side: u8, medium: u8,
+                     memory: *mut u8, memory_length: usize, octets: *const u8, length: usize,
+                     room: *mut u8, room_length: usize) -> u64;
+    fn klumdray_trace(start: u8, kind: u8, destination: u16, count: u8,
+                      site: *const u8, site_length: usize, project: *const u8,
+                      project_length: usize, own: *const u8, own_length: usize,
+                      room: *mut u8, room_length: usize) -> u64;
+    fn klumdray_why(start: u8, kind: u8, destination: u16, count: u8,
+                    site: *const u8, site_length: usize, project: *const u8,
+                    project_length: usize, own: *const u8, own_length: usize, line: u8) -> u32;
+}
+
+/// Calls a writer of the library; what only messages have comes first.
+macro_rules! call_writer {
+    ($writer:ident($($before:ident),*), $numbers:ident, $payload:ident, $room:ident) => {
+        // SAFETY: the library reads the payload and writes the room within the lengths lent, which
+        // Rust's borrows keep apart, and keeps neither.
+        unsafe {
+            $writer(
+                $($before,)*
+                $numbers.extended,
+                $numbers.first_sending,
+                $numbers.priority,
+                $numbers.source,
+                $numbers.group,
+                $numbers.destination,
+                $numbers.count,
+                $payload.as_ptr(),
+                $payload.len(),
+                $room.as_mut_ptr(),
+                $room.len(),
+            )
+        }
+    };
+}
+
+/// Calls the library with a query and a site; what each call has of its own comes last.
+macro_rules! call_tracer {
+    ($call:ident, $query:ident, $site:ident, $($last:ident),+) => {
+        // SAFETY: the library reads records and stores, and writes a room where one is lent, within
+        // the lengths lent, which Rust's borrows keep apart, and keeps none of them.
+        unsafe {
+            $call(
+                $query.start,
+                $query.kind,
+                $query.destination,
+                $query.count,
+                $site.records.as_ptr(),
+                $site.records.len(),
+                $site.project.as_ptr(),
+                $site.project.len(),
+                $site.own.as_ptr(),
+                $site.own.len(),
+                $($last),+
+            )
+        }
+    };
 }
 
 /// The check octet of the octets given.
@@ -189,23 +178,7 @@ pub fn tp1_read(octets: &[u8]) -> u64 {
 /// ```
 #[inline]
 pub fn tp1_write(numbers: &Numbers, payload: &[u8], room: &mut [u8]) -> u64 {
-    // SAFETY: the library reads the payload and writes the room within the lengths lent, which
-    // Rust's borrow keeps apart, and keeps neither.
-    unsafe {
-        klumdray_tp1_write(
-            numbers.extended,
-            numbers.first_sending,
-            numbers.priority,
-            numbers.source,
-            numbers.group,
-            numbers.destination,
-            numbers.count,
-            payload.as_ptr(),
-            payload.len(),
-            room.as_mut_ptr(),
-            room.len(),
-        )
-    }
+    call_writer!(klumdray_tp1_write(), numbers, payload, room)
 }
 
 /// A cEMI reader's answer as one number: bits 0 to 7 are the refusal's number, 0 if accepted.
@@ -238,24 +211,12 @@ pub fn cemi_write(
     payload: &[u8],
     room: &mut [u8],
 ) -> u64 {
-    // SAFETY: as for `tp1_write`.
-    unsafe {
-        klumdray_cemi_write(
-            code,
-            error_mark,
-            numbers.extended,
-            numbers.first_sending,
-            numbers.priority,
-            numbers.source,
-            numbers.group,
-            numbers.destination,
-            numbers.count,
-            payload.as_ptr(),
-            payload.len(),
-            room.as_mut_ptr(),
-            room.len(),
-        )
-    }
+    call_writer!(
+        klumdray_cemi_write(code, error_mark),
+        numbers,
+        payload,
+        room
+    )
 }
 
 /// A routing reader's answer as one number: bits 0 to 7 are the refusal's number, 0 if accepted.
@@ -288,24 +249,12 @@ pub fn routing_write(
     payload: &[u8],
     room: &mut [u8],
 ) -> u64 {
-    // SAFETY: as for `tp1_write`.
-    unsafe {
-        klumdray_routing_write(
-            code,
-            error_mark,
-            numbers.extended,
-            numbers.first_sending,
-            numbers.priority,
-            numbers.source,
-            numbers.group,
-            numbers.destination,
-            numbers.count,
-            payload.as_ptr(),
-            payload.len(),
-            room.as_mut_ptr(),
-            room.len(),
-        )
-    }
+    call_writer!(
+        klumdray_routing_write(code, error_mark),
+        numbers,
+        payload,
+        room
+    )
 }
 
 /// A step's answer: bits 0 to 7 the number, bits 8 to 15 the acknowledgement or 0, bit 16 for the
@@ -363,24 +312,8 @@ pub fn step(setting: &Setting<'_>, memory: &mut [u8], octets: &[u8], room: &mut 
 /// ```
 #[inline]
 pub fn trace(query: &Query, site: &Site<'_>, room: &mut [u8]) -> u64 {
-    // SAFETY: the library reads records and stores and writes the room within the lengths lent,
-    // which Rust's borrows keep apart, and keeps none of them.
-    unsafe {
-        klumdray_trace(
-            query.start,
-            query.kind,
-            query.destination,
-            query.count,
-            site.records.as_ptr(),
-            site.records.len(),
-            site.project.as_ptr(),
-            site.project.len(),
-            site.own.as_ptr(),
-            site.own.len(),
-            room.as_mut_ptr(),
-            room.len(),
-        )
-    }
+    let (front, length) = (room.as_mut_ptr(), room.len());
+    call_tracer!(klumdray_trace, query, site, front, length)
 }
 
 /// A why's answer: bits 0 to 7 the number, bits 8 to 15 the reason or 0 if the line is reached,
@@ -399,20 +332,5 @@ pub fn trace(query: &Query, site: &Site<'_>, room: &mut [u8]) -> u64 {
 /// ```
 #[inline]
 pub fn why(query: &Query, site: &Site<'_>, line: u8) -> u32 {
-    // SAFETY: the library reads records and stores within the lengths lent and keeps none of them.
-    unsafe {
-        klumdray_why(
-            query.start,
-            query.kind,
-            query.destination,
-            query.count,
-            site.records.as_ptr(),
-            site.records.len(),
-            site.project.as_ptr(),
-            site.project.len(),
-            site.own.as_ptr(),
-            site.own.len(),
-            line,
-        )
-    }
+    call_tracer!(klumdray_why, query, site, line)
 }

@@ -50,18 +50,40 @@ impl Refusal {
     /// Filter table missing or of wrong size.
     pub const TABLE: Refusal = Refusal(18);
 
+    /// The refusal that an answer carries; the library gives no numbers but those above.
     #[inline]
-    pub(crate) fn from_number(number: u8) -> Refusal {
+    pub(crate) fn answered(number: u8) -> Refusal {
         Refusal(number)
     }
 
+    /// The refusal with a number of document 01's table, 1 to 18.
+    ///
+    /// ```
+    /// use klumdray::Refusal;
+    /// assert_eq!(Refusal::from_number(6), Some(Refusal::CHECK_OCTET));
+    /// assert_eq!(Refusal::from_number(0), None);
+    /// assert_eq!(Refusal::from_number(19), None);
+    /// ```
+    #[inline]
+    pub fn from_number(number: u8) -> Option<Refusal> {
+        (1..=18).contains(&number).then_some(Refusal(number))
+    }
+
     /// The number in document 01's table.
+    ///
+    /// ```
+    /// assert_eq!(klumdray::Refusal::LINE_TWICE.number(), 17);
+    /// ```
     #[inline]
     pub fn number(self) -> u8 {
         self.0
     }
 
     /// The words of document 01's table.
+    ///
+    /// ```
+    /// assert_eq!(klumdray::Refusal::CHECK_OCTET.words(), "wrong check octet");
+    /// ```
     pub fn words(self) -> &'static str {
         match self {
             Refusal::TOO_FEW => "fewer octets than the frame needs",

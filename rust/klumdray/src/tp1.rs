@@ -3,6 +3,9 @@
 use crate::answer::{written, Reading};
 use crate::{raw, Meaning, Refusal};
 
+/// The octets of the longest frame.
+pub const FRAME_SIZE: usize = 263;
+
 /// An accepted frame over the caller's octets.
 #[derive(Clone, Copy, Debug, PartialEq, Eq)]
 pub struct Frame<'a> {

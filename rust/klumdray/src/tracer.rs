@@ -1,12 +1,22 @@
 //! Sites and the tracer: the lines that a telegram reaches from its starting line, and why it does
 //! not reach another.
 
+use std::fmt;
+
 use crate::answer::{self, Trace};
 use crate::coupler::Side;
 use crate::{raw, Refusal};
 
-/// Octets of a listed line.
-const LISTED: usize = 3;
+pub use crate::raw::Site;
+
+/// The octets of a coupler's record in a site.
+pub const RECORD_SIZE: usize = 12;
+
+/// The octets of a listed line: line, count on arrival, couplers crossed.
+pub const LISTED_SIZE: usize = 3;
+
+/// The octets that a trace's room has at the least: a place for each of the 256 lines.
+pub const LIST_ROOM_SIZE: usize = 768;
 
 /// A telegram to trace.
 #[derive(Clone, Copy, Debug, PartialEq, Eq)]
@@ -29,31 +39,6 @@ impl Query {
             kind: u8::from(self.group),
             destination: self.destination,
             count: self.count,
-        }
-    }
-}
-
-/// A site: its couplers, and the two stores that their filter tables lie in.
-#[derive(Clone, Copy, Debug, PartialEq, Eq)]
-pub struct Site<'a> {
-    /// A record for each coupler, 12 octets: mark 43h 50h, line, four codes main to sub, four codes
-    /// sub to main (as in [`crate::coupler::Settings`]), table number. Numbers 0 to 127 count in the
-    /// project store, 128 to 254 in the site's own store from its start, FFh is none and allowed
-    /// where no group code of that record is 1.
-    pub records: &'a [u8],
-    /// The project store: at most 128 filter tables of 8,192 octets.
-    pub project: &'a [u8],
-    /// The site's own store: at most 127 filter tables of 8,192 octets.
-    pub own: &'a [u8],
-}
-
-impl Site<'_> {
-    #[inline]
-    fn octets(&self) -> raw::Site<'_> {
-        raw::Site {
-            records: self.records,
-            project: self.project,
-            own: self.own,
         }
     }
 }
@@ -83,17 +68,17 @@ impl<'a> Traced<'a> {
     /// The listed lines, rising.
     ///
     /// ```
-    /// use klumdray::tracer::{trace, Listed, Query, Site};
+    /// use klumdray::tracer::{trace, Listed, Query, Site, LIST_ROOM_SIZE};
     /// let site = Site { records: &[], project: &[], own: &[] };
     /// let query = Query { start: 0x47, group: true, destination: 0x1234, count: 6 };
-    /// let mut room = [0; 768];
+    /// let mut room = [0; LIST_ROOM_SIZE];
     /// let traced = trace(&query, &site, &mut room)?;
     /// assert!(traced.lines().eq([Listed { line: 0x47, count: 6, crossed: 0 }]));
     /// # Ok::<(), klumdray::Refusal>(())
     /// ```
     #[inline]
     pub fn lines(&self) -> impl Iterator<Item = Listed> + 'a {
-        let listed = self.list.chunks_exact(LISTED);
+        let listed = self.list.chunks_exact(LISTED_SIZE);
         listed.map(|octets| Listed {
             line: octets[0],
             count: octets[1],
@@ -107,14 +92,14 @@ impl<'a> Traced<'a> {
 /// 15, 18, 17. Octets of the room behind the list stay; after a refusal all do.
 ///
 /// ```
-/// use klumdray::tracer::{trace, Query, Site};
+/// use klumdray::tracer::{trace, Query, Site, LIST_ROOM_SIZE};
 /// use klumdray::Refusal;
 /// let records = [0x20, 0x40, 0x45, 0x47].map(|line| {
 ///     [0x43, 0x50, line, 2, 2, 2, 2, 2, 2, 2, 2, 0xff]
 /// });
 /// let site = Site { records: records.as_flattened(), project: &[], own: &[] };
 /// let query = Query { start: 0x47, group: true, destination: 0x1234, count: 2 };
-/// let mut room = [0; 768];
+/// let mut room = [0; LIST_ROOM_SIZE];
 ///
 /// let traced = trace(&query, &site, &mut room)?;
 /// assert_eq!(traced.list, [0x00, 0, 2, 0x40, 1, 1, 0x45, 0, 2, 0x47, 2, 0]);
@@ -131,14 +116,20 @@ pub fn trace<'a>(
     site: &Site<'_>,
     room: &'a mut [u8],
 ) -> Result<Traced<'a>, Refusal> {
-    let trace = Trace::accepted(raw::trace(&query.numbers(), &site.octets(), room))?;
+    let trace = Trace::accepted(raw::trace(&query.numbers(), site, room))?;
     Ok(Traced {
-        list: &room[..LISTED * trace.listed()],
+        list: &room[..LISTED_SIZE * trace.listed()],
         forwardings: trace.forwardings(),
     })
 }
 
 /// Why a coupler does not hand a telegram on; where more than one applies, the first of them.
+///
+/// ```
+/// use klumdray::tracer::Reason;
+/// assert_eq!(Reason::NotFitted.to_string(), "no coupler fitted");
+/// assert_eq!(Reason::CountUsedUp.to_string(), "the count is used up");
+/// ```
 #[derive(Clone, Copy, Debug, PartialEq, Eq, PartialOrd, Ord, Hash)]
 pub enum Reason {
     /// No coupler is fitted.
@@ -155,6 +146,20 @@ pub enum Reason {
     NotInTable,
     /// The count is used up.
     CountUsedUp,
+}
+
+impl fmt::Display for Reason {
+    fn fmt(&self, f: &mut fmt::Formatter<'_>) -> fmt::Result {
+        f.write_str(match self {
+            Reason::NotFitted => "no coupler fitted",
+            Reason::OwnAddress => "the destination is the coupler's own address",
+            Reason::Closed => "the code is closed",
+            Reason::NotBelow => "code 1, and the destination is not below",
+            Reason::NotAbove => "code 1, and the destination is not above",
+            Reason::NotInTable => "code 1, and the group is not in its table",
+            Reason::CountUsedUp => "the count is used up",
+        })
+    }
 }
 
 /// Whether a telegram reaches a line, and if not, why.
@@ -197,5 +202,5 @@ pub enum Why {
 /// ```
 #[inline]
 pub fn why(query: &Query, site: &Site<'_>, line: u8) -> Result<Why, Refusal> {
-    answer::why(raw::why(&query.numbers(), &site.octets(), line))
+    answer::why(raw::why(&query.numbers(), site, line))
 }

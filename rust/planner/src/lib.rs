@@ -9,6 +9,8 @@ pub mod arguments;
 pub mod commands;
 pub mod fault;
 pub mod findings;
+pub mod frame;
+pub mod hex;
 pub mod json;
 pub mod loading;
 pub mod octets;

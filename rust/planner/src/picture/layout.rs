@@ -10,12 +10,12 @@ pub const MARGIN: i32 = 24;
 /// Above the backbone: title, telegram and summary.
 const HEADER: i32 = 118;
 /// A line's frame has room for three rows of text.
-pub const FRAME_HEIGHT: i32 = 58;
+const FRAME_HEIGHT: i32 = 62;
 const FRAME_WIDTH: i32 = 172;
 /// The part of a main line that the lines of its area hang on.
 pub const RAIL: i32 = 10;
 /// From a rail to a frame: room for a coupler and, below it, a reason.
-pub const ACROSS: i32 = 94;
+pub const ACROSS: i32 = 108;
 /// From the backbone to a main line.
 const DOWN: i32 = 76;
 const COLUMN: i32 = RAIL + ACROSS + FRAME_WIDTH;
@@ -77,6 +77,12 @@ impl Link {
         }
     }
 
+    /// Where the coupler lies.
+    pub fn middle(&self) -> Point {
+        let way = self.way(Direction::Down);
+        way.point(way.length / 2, 0)
+    }
+
     /// Whether it goes across, as below a main line.
     pub fn is_across(&self) -> bool {
         self.main.y == self.sub.y
@@ -100,109 +106,89 @@ pub struct Layout {
     pub lines: Vec<(Line, Outline)>,
     /// The link of each line but the backbone, rising.
     pub links: Vec<(Line, Link)>,
-    /// To the right edge, without the margin.
+    /// Of the backbone, below which all else lies.
     pub width: i32,
     /// To the lower edge of the lowest line.
     pub height: i32,
 }
 
 impl Layout {
-    /// Lays lines out; with a line its main side has to be among them. The picture gets no narrower
-    /// than the width given.
-    pub fn new(lines: &BTreeSet<Line>, narrowest: i32) -> Layout {
-        let areas: BTreeSet<u8> = lines
-            .iter()
-            .filter(|line| line.0 > 0)
-            .map(|line| line.0 >> 4)
-            .collect();
-        let columns = areas.len() as i32;
-        let bar = Rectangle {
-            corner: Point {
-                x: MARGIN,
-                y: HEADER,
-            },
-            width: narrowest.max(columns * (COLUMN + BETWEEN_COLUMNS) - BETWEEN_COLUMNS),
-            height: FRAME_HEIGHT,
+    /// Lays lines out; with a line its main side has to be among them.
+    pub fn new(lines: &BTreeSet<Line>) -> Layout {
+        let below = |area: u8| lines.range(Line(area << 4 | 1)..=Line(area << 4 | 15));
+        let areas = (0..16).filter(|area| match area {
+            0 => below(0).count() > 0,
+            _ => lines.contains(&Line(area << 4)),
+        });
+        let areas: Vec<u8> = areas.collect();
+        let columns = areas.len().max(1) as i32;
+        let corner = Point {
+            x: MARGIN,
+            y: HEADER,
         };
+        let bar = frame(
+            corner,
+            columns * (COLUMN + BETWEEN_COLUMNS) - BETWEEN_COLUMNS,
+        );
         let mut layout = Layout {
             lines: Vec::new(),
             links: Vec::new(),
-            width: bar.corner.x + bar.width,
-            height: HEADER + FRAME_HEIGHT,
+            width: bar.width,
+            height: 0,
         };
-        if !areas.contains(&0) {
-            layout.place(Line(0), bar, None);
-        }
+        // Area 0's lines hang on the backbone itself: its column, if there is one, is the first.
+        layout.hang(Line(0), bar, below(0));
         for (column, area) in areas.into_iter().enumerate() {
-            let left = MARGIN + column as i32 * (COLUMN + BETWEEN_COLUMNS);
-            let main = match area {
-                0 => bar,
-                _ => layout.main_line(Line(area << 4), left),
-            };
-            let in_area = lines.iter().filter(|line| line.0 >> 4 == area);
-            let below: Vec<Line> = in_area.copied().filter(|line| line.0 & 15 > 0).collect();
-            layout.hang(Line(area << 4), main, &below);
+            if area > 0 {
+                let left = column as i32 * (COLUMN + BETWEEN_COLUMNS);
+                let corner = corner.moved(left, FRAME_HEIGHT + DOWN);
+                layout.hang_area(Line(area << 4), corner, below(area));
+            }
         }
         layout
     }
 
-    fn place(&mut self, line: Line, frame: Rectangle, rail: Option<i32>) {
-        let lowest = frame.corner.y + frame.height;
-        self.height = self.height.max(lowest);
-        self.lines.push((line, Outline { frame, rail }));
-    }
-
-    /// An area's main line hangs on the backbone by its coupler.
-    fn main_line(&mut self, line: Line, left: i32) -> Rectangle {
-        let top = HEADER + FRAME_HEIGHT + DOWN;
-        let x = left + COLUMN / 2;
+    /// An area: its main line hangs on the backbone by its coupler, the other lines on the main
+    /// line.
+    fn hang_area<'a>(&mut self, main: Line, corner: Point, below: impl Iterator<Item = &'a Line>) {
+        let sub = corner.moved(COLUMN / 2, 0);
         let link = Link {
-            main: Point { x, y: top - DOWN },
-            sub: Point { x, y: top },
+            main: sub.moved(0, -DOWN),
+            sub,
         };
-        self.links.push((line, link));
-        Rectangle {
-            corner: Point { x: left, y: top },
-            width: COLUMN,
-            height: FRAME_HEIGHT,
-        }
+        self.links.push((main, link));
+        self.hang(main, frame(corner, COLUMN), below);
     }
 
-    /// The lines of an area below the main line that they hang on: in area 0 that is the backbone.
-    fn hang(&mut self, main: Line, frame: Rectangle, below: &[Line]) {
-        let left = frame.corner.x + RAIL;
-        let mut middle = None;
-        let mut top = frame.corner.y + frame.height;
-        let mut rows = Vec::new();
+    /// A line, and below it those that hang on it by their couplers.
+    fn hang<'a>(&mut self, main: Line, top: Rectangle, below: impl Iterator<Item = &'a Line>) {
+        let place = self.lines.len();
+        let mut outline = Outline {
+            frame: top,
+            rail: None,
+        };
+        let mut corner = top.corner.moved(RAIL + ACROSS, 0);
         for line in below {
-            top += BETWEEN_ROWS;
-            let y = top + FRAME_HEIGHT / 2;
-            middle = Some(y + FRAME_HEIGHT / 4);
+            corner = corner.moved(0, FRAME_HEIGHT + BETWEEN_ROWS);
+            let sub = corner.moved(0, FRAME_HEIGHT / 2);
             let link = Link {
-                main: Point { x: left, y },
-                sub: Point {
-                    x: left + ACROSS,
-                    y,
-                },
+                main: sub.moved(-ACROSS, 0),
+                sub,
             };
             self.links.push((*line, link));
-            rows.push((
-                *line,
-                Point {
-                    x: link.sub.x,
-                    y: top,
-                },
-            ));
-            top += FRAME_HEIGHT;
+            let frame = frame(corner, FRAME_WIDTH);
+            self.lines.push((*line, Outline { frame, rail: None }));
+            outline.rail = Some(sub.y + RAIL);
         }
-        self.place(main, frame, middle);
-        for (line, corner) in rows {
-            let frame = Rectangle {
-                corner,
-                width: FRAME_WIDTH,
-                height: FRAME_HEIGHT,
-            };
-            self.place(line, frame, None);
-        }
+        self.lines.insert(place, (main, outline));
+        self.height = self.height.max(corner.y + FRAME_HEIGHT);
+    }
+}
+
+fn frame(corner: Point, width: i32) -> Rectangle {
+    Rectangle {
+        corner,
+        width,
+        height: FRAME_HEIGHT,
     }
 }

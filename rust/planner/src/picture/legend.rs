@@ -1,13 +1,13 @@
 //! What each mark means, drawn with the same marks.
 
 use super::layout::{Link, Outline, Rectangle, ACROSS, MARGIN};
-use super::marks::{border, coupler, PLAIN};
+use super::marks::{border, coupler, Border, PLAIN};
 use super::scene::Passage;
 use super::svg::{Point, Svg};
 use crate::plan::Direction;
 use klumdray::tracer::Reason;
 
-const CELL: i32 = 262;
+const CELL: i32 = 294;
 const ROW: i32 = 58;
 const SAMPLE_HEIGHT: i32 = 34;
 /// The two rows of cells.
@@ -18,32 +18,20 @@ pub const WIDTH: i32 = 4 * CELL;
 type Sample = (Mark, [&'static str; 2]);
 
 enum Mark {
-    Line { reached: bool, start: bool },
+    Line(Border),
     Coupler(Passage),
 }
 
 const LINES: [Sample; 3] = [
     (
-        Mark::Line {
-            reached: true,
-            start: true,
-        },
+        Mark::Line(Border::Double),
         ["line on which the", "telegram starts"],
     ),
     (
-        Mark::Line {
-            reached: true,
-            start: false,
-        },
-        ["reached: count on arrival,", "couplers crossed"],
+        Mark::Line(Border::Bold),
+        ["line reached: its count on", "arrival, couplers crossed"],
     ),
-    (
-        Mark::Line {
-            reached: false,
-            start: false,
-        },
-        ["not reached", ""],
-    ),
+    (Mark::Line(Border::Thin), ["line not reached", ""]),
 ];
 
 const COUPLERS: [Sample; 4] = [
@@ -53,7 +41,7 @@ const COUPLERS: [Sample; 4] = [
     ),
     (
         Mark::Coupler(Passage::Stopped(Direction::Down, Reason::Closed)),
-        ["stops the telegram, at", "the cross, and why"],
+        ["coupler that stops the", "telegram, and why"],
     ),
     (
         Mark::Coupler(Passage::NotAsked),
@@ -65,43 +53,33 @@ const COUPLERS: [Sample; 4] = [
 /// Draws the legend below a height.
 pub fn legend(svg: &mut Svg, top: i32) {
     for (row, samples) in [&LINES[..], &COUPLERS[..]].into_iter().enumerate() {
-        for (column, sample) in samples.iter().enumerate() {
+        for (column, (mark, words)) in samples.iter().enumerate() {
             let corner = Point {
                 x: MARGIN + column as i32 * CELL,
                 y: top + row as i32 * ROW,
             };
-            cell(svg, corner, sample);
+            sample(svg, corner, mark);
+            let at = corner.moved(ACROSS + 12, SAMPLE_HEIGHT / 2 - 3);
+            svg.text(at, PLAIN, words[0]);
+            svg.text(at.moved(0, 15), PLAIN, words[1]);
         }
     }
 }
 
-fn cell(svg: &mut Svg, corner: Point, (mark, words): &Sample) {
-    let y = corner.y + SAMPLE_HEIGHT / 2;
+fn sample(svg: &mut Svg, corner: Point, mark: &Mark) {
     match mark {
-        Mark::Line { reached, start } => {
+        Mark::Line(kind) => {
             let frame = Rectangle {
                 corner,
                 width: ACROSS,
                 height: SAMPLE_HEIGHT,
             };
-            border(svg, *reached, *start, &Outline { frame, rail: None });
+            border(svg, *kind, &Outline { frame, rail: None });
         }
         Mark::Coupler(passage) => {
-            let link = Link {
-                main: Point { y, ..corner },
-                sub: Point {
-                    x: corner.x + ACROSS,
-                    y,
-                },
-            };
-            coupler(svg, *passage, &link);
+            let main = corner.moved(0, SAMPLE_HEIGHT / 2);
+            let sub = main.moved(ACROSS, 0);
+            coupler(svg, *passage, &Link { main, sub });
         }
-    }
-    for (row, words) in words.iter().enumerate() {
-        let at = Point {
-            x: corner.x + ACROSS + 12,
-            y: y - 3 + 15 * row as i32,
-        };
-        svg.text(at, PLAIN, words);
     }
 }

@@ -36,7 +36,7 @@ const REASON: Letters = Letters {
 };
 
 const PADDING: i32 = 9;
-const ROW: i32 = 16;
+const ROW: i32 = 17;
 /// Half the side of a coupler's square, of a cross, of an arrow head's base.
 const SQUARE: i32 = 8;
 const CROSS: i32 = 6;
@@ -47,43 +47,47 @@ const BORDER: i32 = 2;
 /// Half of the gap where a coupler is missing.
 const GAP: i32 = 14;
 
-/// Draws a line: its outline, and in its frame address, label and how the telegram arrives.
-pub fn line(svg: &mut Svg, drawn: &Drawn, outline: &Outline) {
-    border(svg, drawn.arrival.is_some(), drawn.start, outline);
-    let frame = outline.frame;
-    let inner = frame.width - 2 * PADDING;
-    let left = frame.corner.x + PADDING;
-    let mut at = Point {
-        x: left,
-        y: frame.corner.y + ROW + 4,
-    };
-    svg.text(at, ADDRESS, &drawn.name);
-    if drawn.start {
-        let right = Point {
-            x: left + inner,
-            ..at
-        };
-        svg.text(right, START, "start");
-    }
-    at.y += ROW;
-    svg.text(at, PLAIN, &cut(&drawn.label, PLAIN, inner));
-    at.y += ROW - 1;
-    if let Some(listed) = drawn.arrival {
-        svg.text(at, PLAIN, &arrival_words(listed));
-    }
+/// How a line's border is drawn.
+#[derive(Clone, Copy)]
+pub enum Border {
+    /// Not reached.
+    Thin,
+    /// Reached.
+    Bold,
+    /// The starting line.
+    Double,
 }
 
-/// Draws a line's border: thin, bold if it is reached, double at the start.
-pub fn border(svg: &mut Svg, reached: bool, start: bool, outline: &Outline) {
-    let path = path(outline);
-    let (fill, stroke, width) = match (reached, start) {
-        (_, true) => (TINT, BLUE, 8),
-        (true, false) => (TINT, BLUE, 3),
-        (false, false) => (PAPER, FAINT, 1),
+/// Draws a line: its outline, and in its frame address, label and how the telegram arrives.
+pub fn line(svg: &mut Svg, drawn: &Drawn, outline: &Outline) {
+    let kind = match drawn.arrival {
+        _ if drawn.start => Border::Double,
+        Some(_) => Border::Bold,
+        None => Border::Thin,
     };
-    outlined(svg, &path, (fill, stroke, width));
-    if start {
-        outlined(svg, &path, ("none", PAPER, 3));
+    border(svg, kind, outline);
+    let inner = outline.frame.width - 2 * PADDING;
+    let at = outline.frame.corner.moved(PADDING, ROW + 3);
+    svg.text(at, ADDRESS, &drawn.name);
+    if drawn.start {
+        svg.text(at.moved(inner, 0), START, "start");
+    }
+    let label = cut(&drawn.label, PLAIN, inner);
+    svg.text(at.moved(0, ROW), PLAIN, &label);
+    let arrival = drawn.arrival.map(arrival_words).unwrap_or_default();
+    svg.text(at.moved(0, 2 * ROW), PLAIN, &arrival);
+}
+
+/// Draws a line's border and, but for a thin one, a tint within it.
+pub fn border(svg: &mut Svg, border: Border, outline: &Outline) {
+    let path = path(outline);
+    match border {
+        Border::Thin => outlined(svg, &path, (PAPER, FAINT, 1)),
+        Border::Bold => outlined(svg, &path, (TINT, BLUE, 3)),
+        Border::Double => {
+            outlined(svg, &path, (TINT, BLUE, 8));
+            outlined(svg, &path, ("none", PAPER, 3));
+        }
     }
 }
 
@@ -117,17 +121,16 @@ pub fn coupler(svg: &mut Svg, passage: Passage, link: &Link) {
     match passage {
         Passage::Crossed(direction) => crossed(svg, &link.way(direction)),
         Passage::Stopped(direction, reason) => {
-            let way = link.way(direction);
-            hollow(svg, &way);
-            cross(svg, &way);
-            beside(svg, link, short(reason));
+            hollow(svg, link);
+            cross(svg, &link.way(direction));
+            say(svg, link, reason);
         }
-        Passage::NotAsked => hollow(svg, &link.way(Direction::Down)),
+        Passage::NotAsked => hollow(svg, link),
         Passage::NotFitted => {
             for direction in Direction::ALL {
                 stub(svg, &link.way(direction));
             }
-            beside(svg, link, short(Reason::NotFitted));
+            say(svg, link, Reason::NotFitted);
         }
     }
 }
@@ -135,48 +138,38 @@ pub fn coupler(svg: &mut Svg, passage: Passage, link: &Link) {
 fn crossed(svg: &mut Svg, way: &Way) {
     let tip = way.length - BORDER;
     let base = tip - HEAD_LENGTH;
-    stroke(svg, [way.point(0, 0), way.point(base, 0)], BLUE, 5);
-    square(svg, way, BLUE, BLUE);
+    stroke(svg, [way.point(0, 0), way.point(base, 0)], (BLUE, 5));
+    square(svg, way.point(way.length / 2, 0), (BLUE, BLUE));
     let corners = [(tip, 0), (base, HEAD), (base, -HEAD)];
     let corners = corners.map(|(along, beside)| way.point(along, beside));
     let points = corners.map(|point| format!("{},{}", point.x, point.y));
     svg.element("polygon", &[("points", &points.join(" ")), ("fill", &BLUE)]);
 }
 
-fn hollow(svg: &mut Svg, way: &Way) {
-    stroke(svg, [way.point(0, 0), way.point(way.length, 0)], INK, 1);
-    square(svg, way, PAPER, INK);
+fn hollow(svg: &mut Svg, link: &Link) {
+    stroke(svg, [link.main, link.sub], (INK, 1));
+    square(svg, link.middle(), (PAPER, INK));
 }
 
 /// On the side that the telegram comes from, between that side and the coupler.
 fn cross(svg: &mut Svg, way: &Way) {
     let middle = (way.length / 2 - SQUARE + BORDER) / 2;
     for slope in [-CROSS, CROSS] {
-        let ends = [
-            way.point(middle - CROSS, -slope),
-            way.point(middle + CROSS, slope),
-        ];
-        stroke(svg, ends, INK, 4);
+        let from = way.point(middle - CROSS, -slope);
+        let to = way.point(middle + CROSS, slope);
+        stroke(svg, [from, to], (INK, 4));
     }
 }
 
 /// One of the two loose ends where there is no coupler.
 fn stub(svg: &mut Svg, way: &Way) {
-    let (from, to) = (way.point(0, 0), way.point(way.length / 2 - GAP, 0));
-    let path = format!("M{} {} L{} {}", from.x, from.y, to.x, to.y);
-    svg.element(
-        "path",
-        &[
-            ("d", &path),
-            ("stroke", &INK),
-            ("stroke-width", &1),
-            ("stroke-dasharray", &"5 4"),
-        ],
-    );
+    let ends = [way.point(0, 0), way.point(way.length / 2 - GAP, 0)];
+    svg.group("g", &[("stroke-dasharray", &"5 4")], |svg| {
+        stroke(svg, ends, (INK, 1));
+    });
 }
 
-fn stroke(svg: &mut Svg, ends: [Point; 2], colour: &str, width: i32) {
-    let [from, to] = ends;
+fn stroke(svg: &mut Svg, [from, to]: [Point; 2], (colour, width): (&str, i32)) {
     svg.element(
         "line",
         &[
@@ -190,32 +183,29 @@ fn stroke(svg: &mut Svg, ends: [Point; 2], colour: &str, width: i32) {
     );
 }
 
-fn square(svg: &mut Svg, way: &Way, fill: &str, colour: &str) {
-    let middle = way.point(way.length / 2, 0);
+fn square(svg: &mut Svg, middle: Point, (fill, stroke): (&str, &str)) {
+    let corner = middle.moved(-SQUARE, -SQUARE);
     svg.element(
         "rect",
         &[
-            ("x", &(middle.x - SQUARE)),
-            ("y", &(middle.y - SQUARE)),
+            ("x", &corner.x),
+            ("y", &corner.y),
             ("width", &(2 * SQUARE)),
             ("height", &(2 * SQUARE)),
             ("fill", &fill),
-            ("stroke", &colour),
+            ("stroke", &stroke),
             ("stroke-width", &2),
         ],
     );
 }
 
-/// Few words beside a coupler: below a link that goes across, to the right of one that goes down.
-fn beside(svg: &mut Svg, link: &Link, words: &str) {
-    let way = link.way(Direction::Down);
-    let middle = way.point(way.length / 2, 0);
-    let (at, anchor) = if link.is_across() {
-        let y = middle.y + SQUARE + 13;
-        (Point { y, ..middle }, Anchor::Middle)
-    } else {
-        let (x, y) = (middle.x + SQUARE + 7, middle.y + 4);
-        (Point { x, y }, Anchor::Start)
+/// Few words at a link: below one that goes across, else in its gap or to the right of its coupler.
+fn say(svg: &mut Svg, link: &Link, reason: Reason) {
+    let (right, down, anchor) = match (link.is_across(), reason) {
+        (true, _) => (0, SQUARE + 13, Anchor::Middle),
+        (false, Reason::NotFitted) => (0, 4, Anchor::Middle),
+        (false, _) => (SQUARE + 7, 4, Anchor::Start),
     };
-    svg.text(at, Letters { anchor, ..REASON }, words);
+    let at = link.middle().moved(right, down);
+    svg.text(at, Letters { anchor, ..REASON }, short(reason));
 }

@@ -16,14 +16,15 @@ use svg::{cut, Anchor, Letters, Point, Svg};
 
 /// Draws the lines of a site, and what becomes of a telegram on them.
 pub fn draw(site: &Site, telegram: &Telegram, traced: &Traced) -> String {
-    let layout = Layout::new(&lines(site, telegram), legend::WIDTH);
+    let layout = Layout::new(&lines(site, telegram));
     let scene = Scene {
         site,
         telegram,
         traced,
     };
     let below = layout.height + 2 * MARGIN;
-    let (width, height) = (layout.width + MARGIN, below + legend::HEIGHT);
+    let inner = layout.width.max(legend::WIDTH);
+    let (width, height) = (inner + 2 * MARGIN, below + legend::HEIGHT);
     let mut svg = Svg::default();
     let attributes: &svg::Attributes<'_> = &[
         ("xmlns", &"http://www.w3.org/2000/svg"),
@@ -37,7 +38,7 @@ pub fn draw(site: &Site, telegram: &Telegram, traced: &Traced) -> String {
             "rect",
             &[("width", &width), ("height", &height), ("fill", &"#ffffff")],
         );
-        header(svg, &scene, layout.width - MARGIN);
+        header(svg, &scene, inner);
         tree(svg, &scene, &layout);
         svg.group("g", &[("class", &"legend")], |svg| {
             legend::legend(svg, below)
@@ -69,27 +70,26 @@ fn header(svg: &mut Svg, scene: &Scene<'_>, room: i32) {
     }
 }
 
+/// The couplers lie below, so that a line's border is drawn over the ends of its links.
 fn tree(svg: &mut Svg, scene: &Scene<'_>, layout: &Layout) {
-    for (line, outline) in &layout.lines {
-        let drawn = scene.line(*line);
-        let mut class = String::from("line");
-        if drawn.arrival.is_some() {
-            class += " reached";
-        }
-        if drawn.start {
-            class += " start";
-        }
-        svg.group("g", &[("class", &class), ("data-line", line)], |svg| {
-            svg.text_element("title", &[], &drawn.words);
-            marks::line(svg, &drawn, outline);
-        });
-    }
     for (line, link) in &layout.links {
         let (passage, words) = scene.coupler(*line);
         let class = format!("coupler {}", kind(passage));
         svg.group("g", &[("class", &class), ("data-coupler", line)], |svg| {
             svg.text_element("title", &[], &words);
             marks::coupler(svg, passage, link);
+        });
+    }
+    for (line, outline) in &layout.lines {
+        let drawn = scene.line(*line);
+        let class = match drawn.arrival {
+            _ if drawn.start => "line reached start",
+            Some(_) => "line reached",
+            None => "line not-reached",
+        };
+        svg.group("g", &[("class", &class), ("data-line", line)], |svg| {
+            svg.text_element("title", &[], &drawn.words);
+            marks::line(svg, &drawn, outline);
         });
     }
 }

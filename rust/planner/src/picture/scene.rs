@@ -62,12 +62,7 @@ impl Scene<'_> {
             name: line.to_string(),
             arrival,
             start: line == self.telegram.from,
-            words: [&line.to_string(), &label, &outcome]
-                .map(String::as_str)
-                .into_iter()
-                .filter(|part| !part.is_empty())
-                .collect::<Vec<_>>()
-                .join(", "),
+            words: format!("{}: {outcome}", format!("{line} {label}").trim_end()),
             label,
         }
     }

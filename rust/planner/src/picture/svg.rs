@@ -43,6 +43,16 @@ pub struct Point {
     pub y: i32,
 }
 
+impl Point {
+    /// The point so far to the right and so far down from this one.
+    pub fn moved(self, right: i32, down: i32) -> Point {
+        Point {
+            x: self.x + right,
+            y: self.y + down,
+        }
+    }
+}
+
 impl Svg {
     /// What is written.
     pub fn into_text(self) -> String {
@@ -74,8 +84,11 @@ impl Svg {
         self.row(&format!("</{name}>"));
     }
 
-    /// A text on its base line.
+    /// A text on its base line; nothing for no text.
     pub fn text(&mut self, at: Point, letters: Letters, text: &str) {
+        if text.is_empty() {
+            return;
+        }
         let anchor = match letters.anchor {
             Anchor::Start => "start",
             Anchor::Middle => "middle",
@@ -157,6 +170,7 @@ fn hundredths(character: char) -> i32 {
         'a'..='z' | '0'..='9' => 66,
         '\0'..='\u{7f}' => 86,
         '\u{80}'..='\u{24f}' => 90,
+        '…' => 100,
         _ => 120,
     }
 }

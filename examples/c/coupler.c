@@ -1,0 +1,144 @@
+/*
+ * A coupler in C. Reads a TP1 frame, runs one step of the coupler of line 4.7 with it, then one
+ * with the same frame marked repeated, and prints what happened. Without octets it takes the
+ * telegram of a leak meter on line 4.7 that reports 21 litres to group 2/2/52.
+ *
+ * To build, from the root of the repository, after `rt staticlib klumdray`:
+ *
+ *   gcc -std=c99 -pedantic -Wall -Wextra -Werror -I include examples/c/coupler.c \
+ *       target/staticlib/libklumdray.a -o target/coupler
+ *
+ * Off x86-64, after `tools/emulate-library`, which puts an emulator in front of the library:
+ *
+ *   gcc -std=c99 -pedantic -Wall -Wextra -Werror -I include examples/c/coupler.c \
+ *       target/emulated/libklumdray.a -o target/coupler
+ *
+ * To run: target/coupler, or target/coupler B0 AF FE 00 00 E1 01 00 FE
+ * Exit status: 0; 1 if the frame is refused; 2 if the octets are not hexadecimal.
+ */
+#include "klumdray.h"
+
+#include <ctype.h>
+#include <stdio.h>
+#include <stdlib.h>
+#include <string.h>
+
+enum { LINE = 0x47, LEAK_GROUP = 0x1234 };
+
+/* Both directions: individual addresses by place, broadcast open, groups below 7000h by the filter
+ * table, the others closed. */
+static const uint8_t codes[KLUMDRAY_CODES_SIZE] = {1, 2, 1, 0, 1, 2, 1, 0};
+static uint8_t table[KLUMDRAY_TABLE_SIZE];
+
+/* What the coupler remembers between frames is lent to every step: the library keeps nothing. All
+ * zero is the start, when no frame is remembered. */
+static uint8_t memory[KLUMDRAY_MEMORY_SIZE];
+
+/* Puts the octets of a text behind the n that are there, `most` in all, and leaves out what is
+ * more. Returns 0 if the text is not hexadecimal. */
+static int add_octets(const char *text, uint8_t *octets, size_t most, size_t *n)
+{
+    for (text += strspn(text, " "); *text != '\0'; text += strspn(text, " ")) {
+        char digits[3] = {text[0], text[1], '\0'};
+        if (!isxdigit((unsigned char)digits[0]) || !isxdigit((unsigned char)digits[1]))
+            return 0;
+        if (*n < most)
+            octets[(*n)++] = (uint8_t)strtoul(digits, NULL, 16);
+        text += 2;
+    }
+    return 1;
+}
+
+static void print_octets(const char *name, const uint8_t *octets, size_t n)
+{
+    size_t i;
+    printf("%s", name);
+    for (i = 0; i < n; i++)
+        printf(" %02X", octets[i]);
+    printf("%s\n", n == 0 ? " none" : "");
+}
+
+/* Every answer carries its number in the same place: 0, or the refusal's. */
+static int is_refused(uint64_t answer)
+{
+    unsigned number = klumdray_number(answer);
+    if (number != 0)
+        printf("refused %u: %s\n", number, klumdray_words(klumdray_number(answer)));
+    return number != 0;
+}
+
+static void print_meaning(uint64_t answer, const uint8_t *octets)
+{
+    unsigned priority = klumdray_priority(answer), count = klumdray_count(answer);
+    unsigned source = klumdray_source(answer), to = klumdray_destination(answer);
+    printf("  format: %s\n", klumdray_extended(answer) ? "extended" : "standard");
+    printf("  repeat flag: %s\n", klumdray_first_sending(answer) ? "first sending" : "repeated");
+    printf("  priority: bits %u%u\n", priority >> 1, priority & 1);
+    printf("  source: %u.%u.%u\n", source >> 12, source >> 8 & 15, source & 255);
+    if (klumdray_group(answer))
+        printf("  AT: 1, group\n  destination: %u/%u/%u\n", to >> 11, to >> 8 & 7, to & 255);
+    else
+        printf("  AT: 0, individual\n  destination: %u.%u.%u\n", to >> 12, to >> 8 & 15, to & 255);
+    printf("  hop count: %u\n", count);
+    /* The payload is not copied: it lies in the octets that were read. */
+    print_octets("  payload:", octets + klumdray_tp1_payload_start(answer),
+                 klumdray_payload_length(answer));
+}
+
+/* A frame from the coupler's own line, its sub side; the main side is TP1 too. */
+static int step(const char *name, const uint8_t *octets, size_t n)
+{
+    uint8_t room[KLUMDRAY_ROOM_SIZE];
+    uint64_t answer = klumdray_step(LINE, codes, sizeof codes, table, sizeof table, KLUMDRAY_SUB,
+                                    KLUMDRAY_TP1, memory, sizeof memory, octets, n, room,
+                                    sizeof room);
+    print_octets(name, octets, n);
+    if (is_refused(answer))
+        return 1;
+    if (klumdray_acknowledgement(answer) != 0)
+        printf("  acknowledgement: %02Xh\n", klumdray_acknowledgement(answer));
+    else
+        printf("  acknowledgement: none\n");
+    printf("  for itself: %s\n", klumdray_own(answer) ? "yes" : "no");
+    print_octets("  forwarded:", room, klumdray_forwarded(answer));
+    return 0;
+}
+
+/* Writes the frame that was read once more, with the repeat flag saying repeated: the writer puts
+ * the check octet right. */
+static size_t write_repeated(uint64_t read, const uint8_t *octets, uint8_t *room, size_t m)
+{
+    uint64_t answer = klumdray_tp1_write(
+        klumdray_extended(read), 0, klumdray_priority(read), klumdray_source(read),
+        klumdray_group(read), klumdray_destination(read), klumdray_count(read),
+        octets + klumdray_tp1_payload_start(read), klumdray_payload_length(read), room, m);
+    return (size_t)klumdray_written(answer);
+}
+
+int main(int argc, char **argv)
+{
+    static const uint8_t leak[] = {0xBC, 0x47, 0x15, 0x12, 0x34, 0xE3,
+                                   0x00, 0x80, 0x0C, 0x1A, 0x42};
+    /* One octet more than any frame has, so that what is too long is refused for it (5). */
+    uint8_t octets[KLUMDRAY_FRAME_SIZE + 1], repeated[KLUMDRAY_FRAME_SIZE];
+    size_t n = argc > 1 ? 0 : sizeof leak;
+    uint64_t answer;
+    int i;
+    memcpy(octets, leak, n);
+    for (i = 1; i < argc; i++)
+        if (!add_octets(argv[i], octets, sizeof octets, &n)) {
+            fprintf(stderr, "coupler: two hexadecimal digits an octet expected: %s\n", argv[i]);
+            return 2;
+        }
+    table[LEAK_GROUP / 8] |= 1u << LEAK_GROUP % 8;
+
+    print_octets("frame:", octets, n);
+    answer = klumdray_tp1_read(octets, n);
+    if (is_refused(answer))
+        return 1;
+    print_meaning(answer, octets);
+    if (step("coupler 4.7 receives from its own line:", octets, n))
+        return 1;
+    n = write_repeated(answer, octets, repeated, sizeof repeated);
+    return step("and once more, marked repeated:", repeated, n);
+}
