@@ -34,7 +34,8 @@ crossed; then, for every other line of the site, the coupler that stops it, the 
 '4.0 down' is the coupler of line 4.0, asked to hand on from its main side (0.0) to line 4.0;
 '4.0 up' is the same coupler the other way.
 
-Exit status: 0 answered; 1 the site is refused; 2 a file or an argument cannot be read.
+Exit status: 0 answered; 1 the site is refused; 2 a file or an argument cannot be read, or the
+picture cannot be written; 3 the tool itself is at fault.
 
   klumdray trace examples/plant.site --from 4.7 --group 2/2/52 --picture leak.svg
   klumdray trace examples/plant.site --from 2.1 --individual 4.7.0 --count 5 --json
