@@ -3,7 +3,7 @@
 mod support;
 
 use planner::fault::Fault;
-use planner::loading::{judge, Failure};
+use planner::loading::{load_text, Failure};
 use planner::text::read;
 use std::collections::HashSet;
 use support::broken::{all, GOOD};
@@ -175,7 +175,7 @@ fn damaged_texts_are_read_or_draw_faults() {
             damage(generator, &mut octets);
         }
         let lines = octets.split(|octet| *octet == b'\n').count();
-        match judge("some.site", &octets) {
+        match load_text("some.site", &octets) {
             Err(Failure::Faulty(faults)) => {
                 let at: Vec<usize> = faults.iter().filter_map(|fault| fault.line).collect();
                 assert!(at.is_sorted() && at.len() == faults.len() && !at.is_empty());
