@@ -349,7 +349,7 @@ fn every_pair_of_settings() {
             let leave =
                 format!("2 one_way: {name} leave line 4.0 but none come in: no answer gets there");
             let come_in = format!(
-                "3 one_way: {name} come in to line 4.0 but none leave: nothing there can answer"
+                "3 one_way: {name} come into line 4.0 but none leave: nothing there can answer"
             );
             let expected = match (down, up) {
                 (Closed, up) if passes(up) => vec![leave.as_str()],
@@ -374,7 +374,7 @@ fn classes_that_are_closed_one_way_are_told_together() {
         "individual filter, broadcast closed, groups open",
         "individual closed, broadcast open, groups 0-13 closed, groups 14-31 open",
     );
-    let come_in = "come in to line 0.9 but none leave: nothing there can answer";
+    let come_in = "come into line 0.9 but none leave: nothing there can answer";
     draws(
         &mixed,
         &[

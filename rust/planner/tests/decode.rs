@@ -568,7 +568,6 @@ fn hex_in_any_form() {
 /// What cannot be read: words, what standard error says.
 #[test]
 fn faults() {
-    let missing = "no/such/file: expected hex digits or a file, found ";
     let cases: [(&[&str], &str); 14] = [
         (
             &["BC0"],
@@ -594,8 +593,14 @@ fn faults() {
             &["a.txt", "b.txt"],
             "HEX: expected two hex digits for each octet, found 'a.txt'",
         ),
-        (&["no/such/file"], missing),
-        (&["--file", "no/such/file"], missing),
+        (
+            &["no/such/file"],
+            "no/such/file: expected hex digits or a file of frames, found ",
+        ),
+        (
+            &["--file", "no/such/file"],
+            "no/such/file: expected a file of frames, found ",
+        ),
         (
             &["--file"],
             "--file: expected a file's name, found the end of the command",

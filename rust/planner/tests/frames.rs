@@ -218,6 +218,10 @@ fn in_place(case: &Case<'_>) {
         assert_ne!(case.with(values), case.number, "{case:?}");
     }
     let mut values = case.octets[case.place.octets.clone()].to_vec();
+    if case.number == 3 {
+        let other_fields = values[0] & 0xf0;
+        assert_eq!(expected, [[other_fields]], "{case:?}");
+    }
     for value in 0..=255 {
         *values.last_mut().expect("a place of an octet or two") = value;
         let fits = match case.number {

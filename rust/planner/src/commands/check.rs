@@ -11,26 +11,29 @@ use std::io;
 
 /// What `klumdray check --help` says.
 pub const HELP: &str = "\
-klumdray check SITE [--json]: whether a site is well-formed, and what in it is probably not meant
+klumdray check SITE [--json]
 
-The proved library judges the site. A refused one is told with the refusal's number, its words and
-the line of SITE that draws it. Of a well-formed one there are notes first, one a line, on what is
+Says whether a site is well-formed. A refused one is told with the refusal's number, its words and
+the line of SITE that draws it. Before a well-formed one come notes, each with its line, on what is
 allowed but probably not meant:
 
-  table_not_asked       no coupler names the table, or none that does filters groups
-  table_empty           a coupler filters by a table without groups
-  nothing_filtered      a coupler names a table, and others ask it, but filters no groups itself
-  groups_not_asked      a table has groups 0-13, or 14-31, that no coupler filters by it
-  broadcast_in_table    a table has 0/0/0: broadcast has a setting of its own
-  entry_twice           an entry of a table lies in another one
-  main_line_not_fitted  a coupler such as 4.7 without 4.0: its line is cut off from the backbone
-  one_way               open one way (individual: open or filter), closed the other
+  table_not_asked       no coupler names a table, or none that does filters groups
+  table_empty           a coupler filters groups by a table that has none
+  nothing_filtered      a coupler names a table that others ask, and filters no groups itself
+  groups_not_asked      a table has groups 0-13, or 14-31, and no coupler filters those by it
+  broadcast_in_table    a table has 0/0/0, which is broadcast and has a setting of its own
+  entry_twice           an entry of a table lies in another entry of it
+  main_line_not_fitted  as 4.7 without 4.0: the line is cut off from the backbone
+  one_way               open one way and closed the other; for individual addresses, filter counts
+                        as open
 
-  --json    the answer as one JSON object, with these names as the notes' kinds
-  --help    this text
+  SITE    the site's text, a file
+  --json  the answer as one JSON object; the names above are the notes' kinds
 
-Exit status: 0 well-formed, with notes or without; 1 refused; 2 SITE or an argument cannot be read;
-3 the tool itself is at fault.
+Exit status: 0 well-formed, with or without notes; 1 the site is refused; 2 a file or an argument
+cannot be read.
+
+  klumdray check examples/plant.site
 ";
 
 const KNOWN: [Known; 1] = [Known {

@@ -27,7 +27,7 @@ from (the first octet is 0) and what was expected there.
 
 In JSON an accepted frame has refusal 0; a refused one has its number, words, place and expected.
 Where octets may be of none of the three kinds, or of more than one, kind and refusal are null and
-refusals has each reader's number. A frame from a file has its line.
+refusals has each reader's number. A frame from a file or standard input has its line.
 
 Examples:
   klumdray decode BC 00 00 12 34 B4 00 80 56 78 9A E5
@@ -63,7 +63,11 @@ const KNOWN: [Known; 5] = [
 /// Where frames come from.
 enum Source {
     Words(String),
-    File(String),
+    File {
+        name: String,
+        /// What the name was expected to be.
+        expected: &'static str,
+    },
     StandardInput,
 }
 
@@ -88,33 +92,35 @@ pub fn run(words: &[String], streams: &mut Streams<'_>) -> io::Result<Status> {
     };
     match source {
         Source::Words(text) => decoder.frame("HEX", &text, None)?,
-        Source::File(name) => decoder.file(&name)?,
+        Source::File { name, expected } => decoder.file(&name, expected)?,
         Source::StandardInput => decoder.lines("standard input", &mut *streams.input)?,
     }
     Ok(decoder.status)
 }
 
 fn kind(arguments: &Arguments) -> Result<Option<Kind>, Fault> {
-    let flags = ["--tp1", "--cemi", "--routing"];
+    let flag = |kind: &Kind| format!("--{}", kind.token());
     let mut given = Kind::ALL
         .into_iter()
-        .zip(flags)
-        .filter(|(_, flag)| arguments.has(flag));
+        .filter(|kind| arguments.has(&flag(kind)));
     match (given.next(), given.next()) {
-        (kind, None) => Ok(kind.map(|(kind, _)| kind)),
-        (_, Some((_, flag))) => Err(fault(flag, "one kind", "a second")),
+        (kind, None) => Ok(kind),
+        (_, Some(second)) => Err(fault(&flag(&second), "one kind", "a second")),
     }
 }
 
 fn source(arguments: &Arguments) -> Result<Source, Fault> {
-    let text = arguments.plain.join(" ");
+    let file = |name: &str, expected| Source::File {
+        name: name.into(),
+        expected,
+    };
     match (arguments.value("--file"), &arguments.plain[..]) {
-        (Some(file), []) => Ok(Source::File(file.into())),
+        (Some(name), []) => Ok(file(name, "a file of frames")),
         (Some(_), [word, ..]) => Err(fault("--file", "nothing beside it", &quoted(word))),
         (None, []) => Ok(Source::StandardInput),
         (None, [word]) if word == "-" => Ok(Source::StandardInput),
-        (None, [word]) if !hex::is_meant(word) => Ok(Source::File(word.into())),
-        (None, _) => Ok(Source::Words(text)),
+        (None, [word]) if !hex::is_meant(word) => Ok(file(word, "hex digits or a file of frames")),
+        (None, words) => Ok(Source::Words(words.join(" "))),
     }
 }
 
@@ -129,10 +135,10 @@ struct Decoder<'a> {
 }
 
 impl Decoder<'_> {
-    fn file(&mut self, name: &str) -> io::Result<()> {
+    fn file(&mut self, name: &str, expected: &str) -> io::Result<()> {
         match File::open(name) {
             Ok(file) => self.lines(name, file),
-            Err(error) => self.faulty(fault(name, "hex digits or a file", &error.to_string())),
+            Err(error) => self.faulty(fault(name, expected, &error.to_string())),
         }
     }
 
@@ -149,7 +155,7 @@ impl Decoder<'_> {
                 Ok(0) => break,
                 Ok(_) => self.line(name, &line, number)?,
                 Err(error) => {
-                    self.faulty(fault(name, "a file of lines", &error.to_string()))?;
+                    self.faulty(fault(name, "a file of frames", &error.to_string()))?;
                     break;
                 }
             }
@@ -194,6 +200,8 @@ impl Decoder<'_> {
     }
 
     fn faulty(&mut self, fault: Fault) -> io::Result<()> {
+        // On a terminal a fault stands behind the answers to the lines before it.
+        self.streams.output.flush()?;
         self.status = self.status.max(self.streams.faulty(&[fault])?);
         Ok(())
     }

@@ -76,7 +76,7 @@ fn one_way_words(line: Line, closed: Direction, classes: &[Class]) -> String {
             format!("{names} leave line {line} but none come in: no answer gets there")
         }
         Direction::Up => {
-            format!("{names} come in to line {line} but none leave: nothing there can answer")
+            format!("{names} come into line {line} but none leave: nothing there can answer")
         }
     }
 }

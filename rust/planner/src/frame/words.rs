@@ -5,6 +5,7 @@ use super::{Frame, Kind, Message, Told};
 use crate::address::{Group, Individual};
 use crate::arguments::listed;
 use crate::hex::spaced;
+use crate::words::counted;
 use klumdray::cemi::Code;
 use klumdray::{Meaning, Refusal};
 use std::ops::Range;
@@ -43,7 +44,11 @@ fn accepted(octets: &[u8], frame: &Frame<'_>) -> String {
     if let (Kind::Tp1, [.., check]) = (frame.kind, octets) {
         fields.push(("check octet", format!("{check:02X}h")));
     }
-    format!("{kind}, {}\n{}", counted(octets.len()), table(&fields))
+    format!(
+        "{kind}, {}\n{}",
+        counted(octets.len(), "octet"),
+        table(&fields)
+    )
 }
 
 fn before(message: &Message<'_>) -> Fields {
@@ -161,10 +166,10 @@ fn sentence(octets: &[u8], place: &Place) -> String {
     let found = octets.get(place.octets.clone()).unwrap_or(&[]);
     let found = match (&place.expected, found) {
         (Expected::Size(_) | Expected::AtLeast(_), _) => {
-            let there = counted(octets.len());
+            let there = counted(octets.len(), "octet");
             return format!("{there}, expected {}", place.expected);
         }
-        (Expected::End, left) => format!("{} left", counted(left.len())),
+        (Expected::End, left) => format!("{} left", counted(left.len(), "octet")),
         (Expected::Control, [control]) => format!("{control:02X}h{}", other_kind(*control)),
         (_, octets) => marked(octets).join(" "),
     };
@@ -231,11 +236,4 @@ fn table(fields: &[(&str, String)]) -> String {
         }
     }
     text
-}
-
-fn counted(octets: usize) -> String {
-    match octets {
-        1 => "1 octet".into(),
-        _ => format!("{octets} octets"),
-    }
 }

@@ -33,12 +33,14 @@ pub fn draw(site: &Site, telegram: &Telegram, traced: &Traced) -> String {
         ("viewBox", &format!("0 0 {width} {height}")),
         ("font-family", &"sans-serif"),
     ];
+    let rows = scene.header();
     svg.group("svg", attributes, |svg| {
+        svg.text_element("title", &[], &rows.join("; "));
         svg.element(
             "rect",
             &[("width", &width), ("height", &height), ("fill", &"#ffffff")],
         );
-        header(svg, &scene, inner);
+        header(svg, &rows, inner);
         tree(svg, &scene, &layout);
         svg.group("g", &[("class", &"legend")], |svg| {
             legend::legend(svg, below)
@@ -47,16 +49,7 @@ pub fn draw(site: &Site, telegram: &Telegram, traced: &Traced) -> String {
     svg.into_text()
 }
 
-fn header(svg: &mut Svg, scene: &Scene<'_>, room: i32) {
-    let Telegram { from, to, count } = scene.telegram;
-    let telegram = format!("{to} from {from}, count {count}");
-    let lines = counted(scene.traced.reached.len(), "line");
-    let forwardings = counted(scene.traced.forwardings, "forwarding");
-    let mut rows = vec![telegram.clone(), format!("{lines} reached, {forwardings}")];
-    let title = scene.site.text.title.clone();
-    let all = title.iter().chain([&telegram]).cloned().collect::<Vec<_>>();
-    svg.text_element("title", &[], &all.join(": "));
-    rows.splice(0..0, title);
+fn header(svg: &mut Svg, rows: &[String], room: i32) {
     let mut at = Point { x: MARGIN, y: 20 };
     for (row, text) in rows.iter().enumerate() {
         let size = if row == 0 { 22 } else { 16 };

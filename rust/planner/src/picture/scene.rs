@@ -44,6 +44,19 @@ pub enum Passage {
 }
 
 impl Scene<'_> {
+    /// The site's title, if it has one, the telegram, and how far it comes.
+    pub fn header(&self) -> Vec<String> {
+        let Telegram { from, to, count } = self.telegram;
+        let lines = counted(self.traced.reached.len(), "line");
+        let forwardings = counted(self.traced.forwardings, "forwarding");
+        let title = self.site.text.title.iter().cloned();
+        let rows = title.chain([
+            format!("{to} from {from}, count {count}"),
+            format!("{lines} reached, {forwardings}"),
+        ]);
+        rows.filter(|row| !row.is_empty()).collect()
+    }
+
     /// What is drawn of a line.
     pub fn line(&self, line: Line) -> Drawn {
         let label = self.label(line);
@@ -116,6 +129,10 @@ impl Scene<'_> {
             _ => String::new(),
         })
     }
+}
+
+fn counted(number: usize, what: &str) -> String {
+    format!("{number} {what}{}", if number == 1 { "" } else { "s" })
 }
 
 /// How the telegram arrives.

@@ -142,35 +142,33 @@ fn escaped(text: &str) -> String {
     safe
 }
 
-/// A text that fits into a width: whole, or its beginning and an ellipsis.
+/// A text that fits into a room: whole, or its beginning and an ellipsis.
 pub fn cut(text: &str, letters: Letters, room: i32) -> String {
-    if width(text, letters) <= room {
+    if width(text, letters) <= room.into() {
         return text.into();
     }
-    let room = room - width("…", letters);
-    let fits = |end: &usize| width(text[..*end].trim_end(), letters) <= room;
-    let ends = text.char_indices().map(|(end, _)| end);
-    let end = ends.take_while(fits).last().unwrap_or(0);
-    format!("{}…", text[..end].trim_end())
+    let room = i64::from(room) - width("…", letters);
+    let beginnings = text.char_indices().map(|(end, _)| text[..end].trim_end());
+    let fitting = beginnings.take_while(|beginning| width(beginning, letters) <= room);
+    format!("{}…", fitting.last().unwrap_or_default())
 }
 
 /// How wide a text is at the most: no common sans-serif font is wider than this.
-pub fn width(text: &str, letters: Letters) -> i32 {
-    let hundredths: i32 = text.chars().map(hundredths).sum();
+fn width(text: &str, letters: Letters) -> i64 {
+    let hundredths: i64 = text.chars().map(hundredths).sum();
     let heavier = if letters.bold { 112 } else { 100 };
-    (hundredths * letters.size * heavier + 9_999) / 10_000
+    (hundredths * i64::from(letters.size) * heavier + 9_999) / 10_000
 }
 
 /// A character's width in hundredths of the font's size.
-fn hundredths(character: char) -> i32 {
+fn hundredths(character: char) -> i64 {
     match character {
         'i' | 'j' | 'l' | 'I' | 'f' | 't' | 'r' | ' ' | '.' | ',' | ':' | ';' | '\'' | '|'
-        | '!' | '(' | ')' | '[' | ']' | '-' | '/' => 42,
+        | '!' | '(' | ')' | '[' | ']' | '-' | '/' => 45,
         'm' | 'w' | 'M' | 'W' | '@' | '%' | '&' => 102,
-        'a'..='z' | '0'..='9' => 66,
-        '\0'..='\u{7f}' => 86,
-        '\u{80}'..='\u{24f}' => 90,
-        '…' => 100,
-        _ => 120,
+        'a'..='z' | '0'..='9' | 'ß'..='å' | 'ç'..='ö' | 'ø'..='ÿ' => 66,
+        '\0'..='\u{7f}' | 'À'..='Å' | 'Ç'..='Ö' | 'Ø'..='Þ' => 86,
+        '…' | '\u{80}'..='\u{17f}' | '\u{3000}'..='\u{9fff}' | '\u{ac00}'..='\u{d7a3}' => 108,
+        _ => 143,
     }
 }

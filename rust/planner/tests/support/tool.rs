@@ -65,14 +65,12 @@ impl Printed {
             starts: Vec::new(),
             stopped: Vec::new(),
         };
-        let mut reached = 0;
-        for row in rows.by_ref() {
+        for (reached, row) in rows.by_ref().enumerate() {
             if let Some((lines, forwardings)) = sum(row) {
                 assert_eq!(lines, reached, "{text}");
                 printed.list += &format!("forwardings {forwardings}\n");
                 break;
             }
-            reached += 1;
             printed.take_reached(head, row);
         }
         printed.take_stopped(rows);
