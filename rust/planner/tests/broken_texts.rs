@@ -228,3 +228,23 @@ fn damage(generator: &mut Generator, octets: &mut Vec<u8>) {
     };
     octets.splice(start..end, inserted);
 }
+
+/// docs/SITE-TEXT.md shows a site, and a text with what is wrong with it.
+#[test]
+fn the_page_shows_what_is_read_and_told() {
+    let page = include_str!("../../../docs/SITE-TEXT.md");
+    let blocks: Vec<&str> = page.split("```").skip(1).step_by(2).collect();
+    let [site, broken, told] = blocks[..] else {
+        panic!("{} blocks", blocks.len());
+    };
+    let text = |block: &str| block.strip_prefix("text\n").expect("a text").to_string();
+    let site = load_text("plant.site", text(site).as_bytes()).expect("a well-formed site");
+    let plan = &site.text.plan;
+    assert_eq!(
+        (plan.couplers.len(), plan.project.len(), plan.own.len()),
+        (3, 1, 1)
+    );
+    let faults = read("plant.site", text(broken).as_bytes()).unwrap_err();
+    let drawn: String = faults.iter().map(|fault| format!("{fault}\n")).collect();
+    assert_eq!(drawn, text(told));
+}

@@ -24,6 +24,7 @@ fn refused(text: &str) -> Option<RefusedSite> {
 const OPEN: &str = "individual open, broadcast open, groups open";
 
 /// Below a coupler, before which a table and a good coupler stand: so its own line is 7.
+#[rustfmt::skip]
 const REFUSED: [(&str, Refusal, usize, &str); 17] = [
     ("coupler 0.0\n both all open", Refusal::SETTING, 7, "line 0.0 has no coupler"),
     ("coupler 0.0\n both all filter", Refusal::SETTING, 7, "line 0.0"),
