@@ -9,7 +9,6 @@ mod svg;
 
 use crate::loading::Site;
 use crate::tracing::{lines, Telegram, Traced};
-use crate::words::counted;
 use layout::{Layout, MARGIN};
 use scene::{Passage, Scene};
 use svg::{cut, Anchor, Letters, Point, Svg};
