@@ -271,7 +271,7 @@ coupler 4.7
 fn tells_a_refused_site() {
     let file = site("trace-twice.site", TWICE);
     let ended = trace(&format!("{file} --from 4.7 --group 2/2/52"));
-    let because = "line 4.7 has a coupler already, at line 4 of the file";
+    let because = "a second coupler 4.7; the first stands at line 4 of the file";
     let message = format!("klumdray: {file}:6: refused 17: one line twice in a site: {because}\n");
     assert_eq!((ended.status, ended.text()), (Some(1), ""));
     assert_eq!(ended.errors, message);
