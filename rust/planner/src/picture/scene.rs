@@ -61,11 +61,8 @@ impl Scene<'_> {
     pub fn line(&self, line: Line) -> Drawn {
         let label = self.label(line);
         let arrival = self.arrival(line);
-        let stop = self
-            .traced
-            .not_reached
-            .iter()
-            .find(|stop| stop.line == line);
+        let mut stops = self.traced.not_reached.iter();
+        let stop = stops.find(|stop| stop.line == line);
         let outcome = match (arrival, stop) {
             (Some(listed), _) => arrival_words(listed),
             (None, Some(stop)) => format!("not reached; {}", self.stop_words(stop)),
