@@ -136,6 +136,30 @@ fn class(element: &Element) -> &str {
 }
 
 #[test]
+fn what_is_not_xml_is_told() {
+    assert!(read("<a b=\"&lt;\"><c/>&amp;<d></d></a>\n").is_ok());
+    for broken in [
+        "",
+        "<a>",
+        "<a></b>",
+        "<a></a><b/>",
+        "<a><b></a></b>",
+        "<a b=c/>",
+        "<a b=\"c/>",
+        "<a b=\"c\" b=\"d\"/>",
+        "<a b=\"<\"/>",
+        "<a>&</a>",
+        "<a>&nbsp;</a>",
+        "<a>></a>",
+        "<a>\u{1}</a>",
+        "<a>\u{ffff}</a>",
+        "<a/>b",
+    ] {
+        assert!(read(broken).is_err(), "{broken}");
+    }
+}
+
+#[test]
 fn stands_alone() {
     let known = [
         "svg", "title", "rect", "g", "path", "line", "polygon", "text",
