@@ -26,6 +26,7 @@ impl Line {
     /// use planner::address::Line;
     /// assert_eq!(Line::read("4.7"), Some(Line(0x47)));
     /// assert_eq!(Line::read("4.16"), None);
+    /// assert_eq!(Line::read("4.07"), None);
     /// assert_eq!(Line::read("4.7.0"), None);
     /// ```
     pub fn read(text: &str) -> Option<Line> {
@@ -89,7 +90,7 @@ impl Group {
     /// for text in ["2/2/52", "2/564", "4660", "1234h"] {
     ///     assert_eq!(Group::read(text), Some(Group(0x1234)));
     /// }
-    /// for text in ["2/8/52", "32/0/0", "2/2048", "65536", "12345h", "2/2/", "", "+1"] {
+    /// for text in ["2/8/52", "32/0/0", "2/2048", "65536", "12345h", "2/2/", "", "+1", "0100"] {
     ///     assert_eq!(Group::read(text), None);
     /// }
     /// ```
@@ -117,9 +118,11 @@ impl fmt::Display for Group {
     }
 }
 
-/// Decimal digits alone, so no sign and no space, up to a greatest value.
-fn number(digits: &str, greatest: u16) -> Option<u16> {
-    if digits.is_empty() || !digits.bytes().all(|digit| digit.is_ascii_digit()) {
+/// Decimal digits alone, so no sign and no space, up to a greatest value. Zeros in front are none of
+/// a planner's: `4.07` may be meant as 4.0.7, and `0100` as hex.
+pub(crate) fn number(digits: &str, greatest: u16) -> Option<u16> {
+    let has_zeros = digits.len() > 1 && digits.starts_with('0');
+    if has_zeros || !digits.bytes().all(|digit| digit.is_ascii_digit()) {
         return None;
     }
     digits.parse().ok().filter(|value| *value <= greatest)

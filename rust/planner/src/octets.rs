@@ -16,6 +16,14 @@ pub const PROJECT_TABLES: usize = 128;
 pub const OWN_TABLES: usize = 127;
 const NO_TABLE: u8 = 0xff;
 
+/// Tables that a store holds.
+pub fn most_tables_of(store: Store) -> usize {
+    match store {
+        Store::Project => PROJECT_TABLES,
+        Store::Own => OWN_TABLES,
+    }
+}
+
 /// The records and the stores of a site.
 #[derive(Clone, Debug, Default, PartialEq, Eq)]
 pub struct Octets {
@@ -52,19 +60,37 @@ impl Octets {
 ///
 /// A plan whose tables have no number, because a store has too many of them or a coupler names one
 /// that is not there, has no octets.
+///
+/// ```
+/// use planner::octets::octets_of;
+/// use planner::plan::{Groups, Plan};
+/// let mut plan = Plan { own: vec![Groups::default(); 127], ..Plan::default() };
+/// assert_eq!(octets_of(&plan).unwrap().own.len(), 127 * 8192);
+/// plan.own.push(Groups::default());
+/// assert_eq!(octets_of(&plan), None);
+/// ```
 pub fn octets_of(plan: &Plan) -> Option<Octets> {
-    if plan.project.len() > PROJECT_TABLES || plan.own.len() > OWN_TABLES {
+    let fits = [Store::Project, Store::Own]
+        .iter()
+        .all(|store| plan.tables(*store).len() <= most_tables_of(*store));
+    if !fits || !names_its_tables(plan) {
         return None;
     }
-    let records: Option<Vec<[u8; RECORD]>> = plan.couplers.iter().map(record_of).collect();
+    let records: Vec<[u8; RECORD]> = plan.couplers.iter().map(record_of).collect();
     Some(Octets {
-        records: records?.concat(),
-        project: plan.project.iter().flat_map(table_of).collect(),
-        own: plan.own.iter().flat_map(table_of).collect(),
+        records: records.concat(),
+        project: store_of(&plan.project),
+        own: store_of(&plan.own),
     })
 }
 
-fn record_of(coupler: &Coupler) -> Option<[u8; RECORD]> {
+/// Whether each table that a coupler names is there.
+fn names_its_tables(plan: &Plan) -> bool {
+    let mut tables = plan.couplers.iter().filter_map(|coupler| coupler.table);
+    tables.all(|table| plan.has(table))
+}
+
+fn record_of(coupler: &Coupler) -> [u8; RECORD] {
     let mut record = [0; RECORD];
     record[..2].copy_from_slice(&MARK);
     record[2] = coupler.line.0;
@@ -74,20 +100,21 @@ fn record_of(coupler: &Coupler) -> Option<[u8; RECORD]> {
     {
         *code = *setting as u8;
     }
-    record[11] = match coupler.table {
-        None => NO_TABLE,
-        Some(table) => number_of(table)?,
-    };
-    Some(record)
+    record[11] = coupler.table.map_or(NO_TABLE, number_of);
+    record
 }
 
-fn number_of(table: TableAt) -> Option<u8> {
-    let (start, limit) = match table.store {
-        Store::Project => (0, PROJECT_TABLES),
-        Store::Own => (PROJECT_TABLES, OWN_TABLES),
-    };
-    let place = Some(table.place).filter(|place| *place < limit)?;
-    (start + place).try_into().ok()
+/// The number of a table that is there, so below FFh.
+fn number_of(table: TableAt) -> u8 {
+    match table.store {
+        Store::Project => table.place as u8,
+        Store::Own => (PROJECT_TABLES + table.place) as u8,
+    }
+}
+
+fn store_of(tables: &[Groups]) -> Vec<u8> {
+    let tables: Vec<Vec<u8>> = tables.iter().map(table_of).collect();
+    tables.concat()
 }
 
 /// "bit g mod 8 of octet g div 8".
@@ -102,15 +129,16 @@ fn table_of(groups: &Groups) -> Vec<u8> {
 }
 
 /// Translates octets back to a site; none where they are no site that words can say, be it for a
-/// mark, a code or a length.
+/// mark, a code, a length or the number of a table that is not there.
 pub fn plan_of(octets: &Octets) -> Option<Plan> {
     let records = octets.records.chunks(RECORD);
     let couplers: Option<Vec<Coupler>> = records.map(coupler_of).collect();
-    Some(Plan {
+    let plan = Plan {
         couplers: couplers?,
-        project: tables_of(&octets.project)?,
-        own: tables_of(&octets.own)?,
-    })
+        project: tables_of(&octets.project, PROJECT_TABLES)?,
+        own: tables_of(&octets.own, OWN_TABLES)?,
+    };
+    Some(plan).filter(names_its_tables)
 }
 
 fn coupler_of(record: &[u8]) -> Option<Coupler> {
@@ -143,16 +171,26 @@ fn table_at(number: u8) -> Option<TableAt> {
     }
 }
 
-fn tables_of(store: &[u8]) -> Option<Vec<Groups>> {
+fn tables_of(store: &[u8], most: usize) -> Option<Vec<Groups>> {
     let tables = store.chunks_exact(TABLE);
-    if !tables.remainder().is_empty() {
+    if !tables.remainder().is_empty() || tables.len() > most {
         return None;
     }
     Some(tables.map(groups_of).collect())
 }
 
 fn groups_of(table: &[u8]) -> Groups {
-    let is_listed = |group: &u16| table[usize::from(*group) / 8] >> (group % 8) & 1 == 1;
-    let listed = (0..=u16::MAX).filter(is_listed).map(Group);
-    Groups::new(listed.map(|group| (group, group)).collect())
+    let mut ranges = Vec::new();
+    for (first, octet) in (0..=u16::MAX).step_by(8).zip(table) {
+        match octet {
+            0 => {}
+            0xff => ranges.push((Group(first), Group(first + 7))),
+            _ => {
+                let bits = (0..8).filter(|bit| octet >> bit & 1 == 1);
+                let groups = bits.map(|bit| Group(first + bit));
+                ranges.extend(groups.map(|group| (group, group)));
+            }
+        }
+    }
+    Groups::new(ranges)
 }

@@ -130,7 +130,8 @@ impl Coupler {
 pub struct Groups(Vec<(Group, Group)>);
 
 impl Groups {
-    /// The groups of the ranges given, which may overlap and stand in any order.
+    /// The groups of the ranges given, which may overlap and stand in any order; one whose last group
+    /// comes before its first has none.
     ///
     /// ```
     /// use planner::address::Group;
@@ -139,6 +140,7 @@ impl Groups {
     /// assert_eq!(groups.ranges(), [(Group(1), Group(9))]);
     /// ```
     pub fn new(mut ranges: Vec<(Group, Group)>) -> Groups {
+        ranges.retain(|(first, last)| first <= last);
         ranges.sort();
         let mut apart: Vec<(Group, Group)> = Vec::new();
         for (first, last) in ranges {
@@ -182,5 +184,10 @@ impl Plan {
             Store::Project => &self.project,
             Store::Own => &self.own,
         }
+    }
+
+    /// Whether a table is there.
+    pub fn has(&self, table: TableAt) -> bool {
+        table.place < self.tables(table.store).len()
     }
 }

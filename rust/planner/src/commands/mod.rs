@@ -6,6 +6,7 @@ pub mod trace;
 
 use crate::arguments::{fault, quoted};
 use crate::fault::{Fault, Status};
+use crate::loading::{Failure, RefusedSite};
 use std::io::{self, Read, Write};
 
 /// What a command reads and writes.
@@ -25,6 +26,27 @@ impl Streams<'_> {
             writeln!(self.errors, "klumdray: {fault}")?;
         }
         Ok(Status::Faulty)
+    }
+
+    /// Says why there is no site to ask about.
+    pub fn failed(&mut self, failure: &Failure) -> io::Result<Status> {
+        match failure {
+            Failure::Faulty(faults) => self.faulty(faults),
+            Failure::Refused(refused) => self.refused(refused),
+            Failure::Broken => self.broken("the site's octets, translated back, are another site"),
+        }
+    }
+
+    /// Says that the library refuses a site.
+    pub fn refused(&mut self, refused: &RefusedSite) -> io::Result<Status> {
+        writeln!(self.errors, "klumdray: {refused}")?;
+        Ok(Status::Refused)
+    }
+
+    /// Says that the tool itself is at fault.
+    pub fn broken(&mut self, what: &str) -> io::Result<Status> {
+        writeln!(self.errors, "klumdray: the tool is at fault: {what}")?;
+        Ok(Status::Broken)
     }
 
     fn help(&mut self, text: &str) -> io::Result<Status> {

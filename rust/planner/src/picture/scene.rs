@@ -4,6 +4,7 @@ use crate::address::Line;
 use crate::loading::Site;
 use crate::plan::Direction;
 use crate::tracing::{Stop, Telegram, Traced};
+use crate::words::counted;
 use klumdray::tracer::{Listed, Reason};
 
 /// A trace to be drawn.
@@ -126,10 +127,6 @@ impl Scene<'_> {
             _ => String::new(),
         })
     }
-}
-
-fn counted(number: usize, what: &str) -> String {
-    format!("{number} {what}{}", if number == 1 { "" } else { "s" })
 }
 
 /// How the telegram arrives.

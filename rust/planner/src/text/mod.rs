@@ -1,4 +1,4 @@
-//! A site as a person writes it and a version control system compares it. docs/GUIDE.md has the form;
+//! A site as a person writes it and a version control system compares it. docs/SITE-TEXT.md has the form;
 //! in short:
 //!
 //! ```text
@@ -15,12 +15,18 @@
 //!
 //! What begins a line begins a block; the indented lines below belong to it.
 
+mod blocks;
+mod couplers;
+mod entries;
+mod messages;
 mod read;
 mod row;
+mod settings;
+mod tables;
 mod write;
 
 pub use read::read;
-pub use write::write;
+pub use write::{range, write};
 
 use crate::address::Group;
 use crate::plan::{Plan, Store};

@@ -56,9 +56,9 @@ fn coupler(site: &SiteText, coupler: &Coupler, label: Option<&str>) -> String {
         let settings = coupler.settings[direction as usize];
         block += &format!("    {direction:<4}  {}\n", row(&settings));
     }
-    if let Some(table) = coupler.table {
-        let name = &site.tables(table.store)[table.place].name;
-        block += &format!("    table {name}\n");
+    let table = coupler.table;
+    if let Some(table) = table.and_then(|table| site.tables(table.store).get(table.place)) {
+        block += &format!("    table {}\n", table.name);
     }
     block
 }

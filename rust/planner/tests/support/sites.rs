@@ -158,7 +158,7 @@ fn some_table(generator: &mut Generator, plan: &Plan) -> Option<TableAt> {
 
 /// Gives a coupler line 0.0, a line that another has, broadcast filtered, or groups filtered without
 /// a table.
-fn spoil(generator: &mut Generator, plan: &mut Plan) {
+pub fn spoil(generator: &mut Generator, plan: &mut Plan) {
     if plan.couplers.is_empty() {
         return;
     }
