@@ -1,6 +1,9 @@
 //! What a picture says is what the library answers, nothing lies over anything else, and whatever a
 //! planner writes into a label, it is well-formed.
 
+#[allow(dead_code)]
+#[path = "support/queries.rs"]
+mod queries;
 #[path = "picture/shapes.rs"]
 mod shapes;
 mod support;
@@ -14,12 +17,13 @@ use planner::picture::draw;
 use planner::plan::{Direction, Plan};
 use planner::text::SiteText;
 use planner::tracing::{lines, trace, Destination, Telegram, Traced};
+use queries::some_query;
 use shapes::{area, corners, ends, parts, Area};
 use std::collections::BTreeSet;
 use std::sync::OnceLock;
 use support::generator::{seed, Generator};
 use support::sites::well_formed_site;
-use support::{below, one_of, shuffle};
+use support::{one_of, shuffle};
 use xml::{read, Element};
 
 const SITES: usize = 400;
@@ -89,20 +93,15 @@ fn some_text(generator: &mut Generator) -> Option<String> {
 }
 
 fn some_telegram(generator: &mut Generator, plan: &Plan) -> Telegram {
-    let mut known: Vec<u8> = plan.couplers.iter().map(|coupler| coupler.line.0).collect();
-    known.extend([0, generator.octet()]);
-    let any = generator.number() as u16;
-    let device = one_of(generator, &[0, any as u8]);
-    let address = u16::from_be_bytes([one_of(generator, &known), device]);
-    let group = one_of(generator, &[0, 0x1234, 0x7000, any]);
-    let destinations = [
-        Destination::Group(Group(group)),
-        Destination::Individual(Individual(address)),
-    ];
+    let query = some_query(generator, plan);
+    let to = match query.kind {
+        0 => Destination::Individual(Individual(query.destination)),
+        _ => Destination::Group(Group(query.destination)),
+    };
     Telegram {
-        from: Line(one_of(generator, &known)),
-        to: one_of(generator, &destinations),
-        count: below(generator, 8) as u8,
+        from: Line(query.start),
+        to,
+        count: query.count,
     }
 }
 
@@ -133,6 +132,30 @@ fn texts(element: &Element) -> Vec<&str> {
 
 fn class(element: &Element) -> &str {
     element.attribute("class").unwrap_or_default()
+}
+
+#[test]
+fn what_is_not_xml_is_told() {
+    assert!(read("<a b=\"&lt;\"><c/>&amp;<d></d></a>\n").is_ok());
+    for broken in [
+        "",
+        "<a>",
+        "<a></b>",
+        "<a></a><b/>",
+        "<a><b></a></b>",
+        "<a b=c/>",
+        "<a b=\"c/>",
+        "<a b=\"c\" b=\"d\"/>",
+        "<a b=\"<\"/>",
+        "<a>&</a>",
+        "<a>&nbsp;</a>",
+        "<a>></a>",
+        "<a>\u{1}</a>",
+        "<a>\u{ffff}</a>",
+        "<a/>b",
+    ] {
+        assert!(read(broken).is_err(), "{broken}");
+    }
 }
 
 #[test]

@@ -10,16 +10,17 @@ pub const MARGIN: i32 = 24;
 /// Above the backbone: title, telegram and summary.
 const HEADER: i32 = 118;
 /// A line's frame has room for three rows of text.
-const FRAME_HEIGHT: i32 = 62;
+const FRAME_HEIGHT: i32 = 66;
 const FRAME_WIDTH: i32 = 172;
 /// The part of a main line that the lines of its area hang on.
-pub const RAIL: i32 = 10;
+pub const RAIL: i32 = 12;
 /// From a rail to a frame: room for a coupler and, below it, a reason.
 pub const ACROSS: i32 = 108;
 /// From the backbone to a main line.
 const DOWN: i32 = 76;
 const COLUMN: i32 = RAIL + ACROSS + FRAME_WIDTH;
 const BETWEEN_COLUMNS: i32 = 30;
+const PITCH: i32 = COLUMN + BETWEEN_COLUMNS;
 const BETWEEN_ROWS: i32 = 14;
 
 /// A rectangle by its upper left corner.
@@ -126,10 +127,7 @@ impl Layout {
             x: MARGIN,
             y: HEADER,
         };
-        let bar = frame(
-            corner,
-            columns * (COLUMN + BETWEEN_COLUMNS) - BETWEEN_COLUMNS,
-        );
+        let bar = frame(corner, columns * PITCH - BETWEEN_COLUMNS);
         let mut layout = Layout {
             lines: Vec::new(),
             links: Vec::new(),
@@ -140,8 +138,7 @@ impl Layout {
         layout.hang(Line(0), bar, below(0));
         for (column, area) in areas.into_iter().enumerate() {
             if area > 0 {
-                let left = column as i32 * (COLUMN + BETWEEN_COLUMNS);
-                let corner = corner.moved(left, FRAME_HEIGHT + DOWN);
+                let corner = corner.moved(column as i32 * PITCH, FRAME_HEIGHT + DOWN);
                 layout.hang_area(Line(area << 4), corner, below(area));
             }
         }

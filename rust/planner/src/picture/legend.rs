@@ -51,7 +51,7 @@ const COUPLERS: [Sample; 4] = [
 ];
 
 /// Draws the legend below a height.
-pub fn legend(svg: &mut Svg, top: i32) {
+pub fn draw(svg: &mut Svg, top: i32) {
     for (row, samples) in [&LINES[..], &COUPLERS[..]].into_iter().enumerate() {
         for (column, (mark, words)) in samples.iter().enumerate() {
             let corner = Point {

@@ -11,7 +11,8 @@ const INK: &str = "#000000";
 const FAINT: &str = "#505050";
 const BLUE: &str = "#0b4a8f";
 const TINT: &str = "#dce9f6";
-const PAPER: &str = "#ffffff";
+/// Under everything.
+pub const PAPER: &str = "#ffffff";
 
 const ADDRESS: Letters = Letters {
     size: 15,
@@ -67,7 +68,7 @@ pub fn line(svg: &mut Svg, drawn: &Drawn, outline: &Outline) {
     };
     border(svg, kind, outline);
     let inner = outline.frame.width - 2 * PADDING;
-    let at = outline.frame.corner.moved(PADDING, ROW + 3);
+    let at = outline.frame.corner.moved(PADDING, ROW + 4);
     svg.text(at, ADDRESS, &drawn.name);
     if drawn.start {
         svg.text(at.moved(inner, 0), START, "start");

@@ -8,15 +8,15 @@ mod scene;
 mod svg;
 
 use crate::loading::Site;
-use crate::tracing::{lines, Telegram, Traced};
-use crate::words::counted;
+use crate::tracing::{self, Telegram, Traced};
 use layout::{Layout, MARGIN};
+use marks::PAPER;
 use scene::{Passage, Scene};
 use svg::{cut, Anchor, Letters, Point, Svg};
 
 /// Draws the lines of a site, and what becomes of a telegram on them.
 pub fn draw(site: &Site, telegram: &Telegram, traced: &Traced) -> String {
-    let layout = Layout::new(&lines(site, telegram));
+    let layout = Layout::new(&tracing::lines(site, telegram));
     let scene = Scene {
         site,
         telegram,
@@ -38,13 +38,13 @@ pub fn draw(site: &Site, telegram: &Telegram, traced: &Traced) -> String {
         svg.text_element("title", &[], &rows.join("; "));
         svg.element(
             "rect",
-            &[("width", &width), ("height", &height), ("fill", &"#ffffff")],
+            &[("width", &width), ("height", &height), ("fill", &PAPER)],
         );
         header(svg, &rows, inner);
-        tree(svg, &scene, &layout);
-        svg.group("g", &[("class", &"legend")], |svg| {
-            legend::legend(svg, below)
-        });
+        // Under the lines, whose borders cover the ends of the links.
+        couplers(svg, &scene, &layout);
+        lines(svg, &scene, &layout);
+        svg.group("g", &[("class", &"legend")], |svg| legend::draw(svg, below));
     });
     svg.into_text()
 }
@@ -63,8 +63,7 @@ fn header(svg: &mut Svg, rows: &[String], room: i32) {
     }
 }
 
-/// The couplers lie below, so that a line's border is drawn over the ends of its links.
-fn tree(svg: &mut Svg, scene: &Scene<'_>, layout: &Layout) {
+fn couplers(svg: &mut Svg, scene: &Scene<'_>, layout: &Layout) {
     for (line, link) in &layout.links {
         let (passage, words) = scene.coupler(*line);
         let class = format!("coupler {}", kind(passage));
@@ -73,6 +72,9 @@ fn tree(svg: &mut Svg, scene: &Scene<'_>, layout: &Layout) {
             marks::coupler(svg, passage, link);
         });
     }
+}
+
+fn lines(svg: &mut Svg, scene: &Scene<'_>, layout: &Layout) {
     for (line, outline) in &layout.lines {
         let drawn = scene.line(*line);
         let class = match drawn.arrival {

@@ -4,6 +4,7 @@ use crate::address::Line;
 use crate::loading::Site;
 use crate::plan::Direction;
 use crate::tracing::{Stop, Telegram, Traced};
+use crate::words::counted;
 use klumdray::tracer::{Listed, Reason};
 
 /// A trace to be drawn.
@@ -61,11 +62,8 @@ impl Scene<'_> {
     pub fn line(&self, line: Line) -> Drawn {
         let label = self.label(line);
         let arrival = self.arrival(line);
-        let stop = self
-            .traced
-            .not_reached
-            .iter()
-            .find(|stop| stop.line == line);
+        let mut stops = self.traced.not_reached.iter();
+        let stop = stops.find(|stop| stop.line == line);
         let outcome = match (arrival, stop) {
             (Some(listed), _) => arrival_words(listed),
             (None, Some(stop)) => format!("not reached; {}", self.stop_words(stop)),
@@ -129,10 +127,6 @@ impl Scene<'_> {
             _ => String::new(),
         })
     }
-}
-
-fn counted(number: usize, what: &str) -> String {
-    format!("{number} {what}{}", if number == 1 { "" } else { "s" })
 }
 
 /// How the telegram arrives.

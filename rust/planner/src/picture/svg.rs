@@ -124,8 +124,7 @@ fn written(attributes: &Attributes<'_>) -> String {
     text
 }
 
-/// A text as it stands in XML, which has no control characters and not the last two of a plane's
-/// characters.
+/// A text as it stands in XML, which has no control characters, nor FFFEh and FFFFh.
 fn escaped(text: &str) -> String {
     let mut safe = String::new();
     for character in text.chars() {

@@ -68,18 +68,25 @@ fn element(rest: &mut &str) -> Result<Element, String> {
         }
         element.attributes.push((name, value));
     }
-    while !ended {
+    if !ended {
+        content(&mut element, rest)?;
+    }
+    Ok(element)
+}
+
+/// What is in an element, to its end.
+fn content(element: &mut Element, rest: &mut &str) -> Result<(), String> {
+    loop {
         let start = rest.find('<').ok_or("no end")?;
         element.text += &unescaped(&rest[..start])?;
         *rest = &rest[start..];
         if rest.starts_with("</") {
             let end = take(rest, "</", ">")?;
             let same = end == element.name;
-            return same.then_some(element).ok_or(format!("</{end}>"));
+            return same.then_some(()).ok_or(format!("</{end}>"));
         }
         element.children.push(self::element(rest)?);
     }
-    Ok(element)
 }
 
 /// What stands between a beginning and an end.
