@@ -165,7 +165,7 @@ fn cause(text: &SiteText, refusal: Refusal, place: usize) -> (usize, String) {
         Refusal::SETTING => filtered(
             (coupler, at),
             &[Class::Broadcast],
-            "broadcast is closed or open",
+            "broadcast is either closed or open",
         ),
         Refusal::TABLE => filtered((coupler, at), &groups, "the coupler names no table"),
         _ => (at.at, second(text, coupler.line)),

@@ -122,23 +122,24 @@ fn literal(characters: &mut std::str::Chars<'_>) -> String {
     text
 }
 
+const MISTAKES: &str = "\
+    Site \"Plant\"\n\
+    coupler 4.7 boiler house\n\
+    \x20   down individual opne, broadcast filter, groups 0-12 open\n\
+    \x20   up all open\n\
+    \x20   table leek\n\
+    table leak\n\
+    \x20   1/1/1, 1/1/256, 1/1/3 - 1/1/2\n\
+    \x20   5/9/1\n\
+    coupler 4.8\n\
+    \x20   up all open\n\
+    coupler 4.9\n\
+    \x20   both all\n\
+    \x20   table leak leak\n";
+
 #[test]
 fn all_mistakes_are_told_from_the_first_line_to_the_last() {
-    let text = "\
-        Site \"Plant\"\n\
-        coupler 4.7 boiler house\n\
-        \x20   down individual opne, broadcast filter, groups 0-12 open\n\
-        \x20   up all open\n\
-        \x20   table leek\n\
-        table leak\n\
-        \x20   1/1/1, 1/1/256, 1/1/3 - 1/1/2\n\
-        \x20   5/9/1\n\
-        coupler 4.8\n\
-        \x20   up all open\n\
-        coupler 4.9\n\
-        \x20   both all\n\
-        \x20   table leak leak\n";
-    let drawn: Vec<String> = faults(text.as_bytes())
+    let drawn: Vec<String> = faults(MISTAKES.as_bytes())
         .iter()
         .map(Fault::to_string)
         .collect();
@@ -159,7 +160,7 @@ fn all_mistakes_are_told_from_the_first_line_to_the_last() {
     ];
     assert_eq!(drawn, expected.map(|fault| format!("some.site:{fault}")));
     // With a title that can be read, it is clear that no table 'leek' is there.
-    let drawn = faults(text.replace("Site", "site").as_bytes());
+    let drawn = faults(MISTAKES.replace("Site", "site").as_bytes());
     let of_tables: Vec<_> = drawn.iter().map(|fault| fault.line).collect();
     assert_eq!(of_tables, [2, 3, 3, 5, 7, 7, 8, 9, 12, 13].map(Some));
 }

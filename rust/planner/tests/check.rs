@@ -171,7 +171,8 @@ fn settings_that_are_not_allowed() {
     says(&check("backbone", backbone, &[]), REFUSED, &output, "");
     let text =
         "coupler 4.0\n  down all open\n  up groups open, individual open, broadcast filter\n";
-    let output = format!("SITE:3: {words}: broadcast filter up, but broadcast is closed or open\n");
+    let output =
+        format!("SITE:3: {words}: broadcast filter up, but broadcast is either closed or open\n");
     says(&check("broadcast", text, &[]), REFUSED, &output, "");
 }
 

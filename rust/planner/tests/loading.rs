@@ -28,7 +28,7 @@ const OPEN: &str = "individual open, broadcast open, groups open";
 const REFUSED: [(&str, Refusal, usize, &str); 17] = [
     ("coupler 0.0\n both all open", Refusal::SETTING, 7, "line 0.0 has no coupler"),
     ("coupler 0.0\n both all filter", Refusal::SETTING, 7, "line 0.0"),
-    ("coupler 4.7\n down OPEN\n up all filter", Refusal::SETTING, 9, "broadcast filter up, but broadcast is closed or open"),
+    ("coupler 4.7\n down OPEN\n up all filter", Refusal::SETTING, 9, "broadcast filter up, but broadcast is either closed or open"),
     ("coupler 4.7\n both all filter\n table t", Refusal::SETTING, 8, "broadcast filter down"),
     ("coupler 4.7\n up all filter\n down all filter", Refusal::SETTING, 9, "broadcast filter down"),
     ("coupler 4.7\n\n down individual open, broadcast filter, groups open\n up OPEN", Refusal::SETTING, 9, "broadcast filter down"),

@@ -5,10 +5,11 @@ use super::messages::{direction_below, found, found_address, once, second_after,
 use super::messages::{Wrong, Wrongs};
 use super::messages::{BOTH_DIRECTIONS, END, LABEL, LINE, NONE, ONE_TABLE, ROWS};
 use super::row::{Row, Token};
-use super::settings::settings;
+use super::settings::{is_class, settings};
 use super::tables::Names;
 use crate::address::Line;
 use crate::plan::{Direction, Setting, TableAt};
+use std::mem;
 
 /// The line and the label of `coupler 4.7 "boiler house"`.
 pub fn line_and_label(head: &Row<'_>) -> Result<(Line, Option<String>), Wrong> {
@@ -34,6 +35,8 @@ pub struct Below {
     has_other: bool,
     /// Whether groups may follow that stand here by mistake, which is told once.
     has_groups: bool,
+    /// Whether the line above has settings with a fault: perhaps they go on in the next line.
+    goes_on: bool,
 }
 
 type Said = (usize, Option<[Setting; 4]>);
@@ -49,12 +52,14 @@ impl Below {
     }
 
     fn take(&mut self, row: &Row<'_>, names: &Names<'_>, wrongs: &mut Wrongs) -> Result<(), Wrong> {
+        let goes_on = mem::take(&mut self.goes_on);
         match row.word() {
             "down" => self.take_settings(&[Direction::Down], row, wrongs),
             "up" => self.take_settings(&[Direction::Up], row, wrongs),
             "both" => self.take_settings(&Direction::ALL, row, wrongs),
             "table" => self.take_table(row, names),
             word if is_number(word) && self.has_groups => Ok(()),
+            word if is_class(word) && goes_on => Ok(()),
             word => {
                 self.has_groups |= is_number(word);
                 self.has_other |= !is_number(word);
@@ -70,6 +75,7 @@ impl Below {
         wrongs: &mut Wrongs,
     ) -> Result<(), Wrong> {
         let settings = settings(row, wrongs);
+        self.goes_on = settings.is_none();
         let mut second = None;
         for direction in directions {
             match &mut self.rows[*direction as usize] {

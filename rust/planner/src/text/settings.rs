@@ -63,6 +63,11 @@ fn classes(part: &Part<'_, '_>, at: usize) -> Result<(&'static [Class], usize), 
     })
 }
 
+/// Whether a word begins a part.
+pub fn is_class(word: &str) -> bool {
+    matches!(word, "individual" | "broadcast" | "groups" | "all")
+}
+
 fn named(word: &str) -> Option<Setting> {
     let mut settings = Setting::ALL.into_iter();
     settings.find(|setting| setting.to_string() == word)

@@ -332,6 +332,10 @@ const SETTINGS: &[Broken] = &[
 #[rustfmt::skip]
 const BELOW: &[Broken] = &[
     (Line(15, ""), 14, "a line 'down' below", "none"),
+    (Line(16, "    up individual open,\n       broadcast open, groups open"), 16, "'individual', 'broadcast'", END),
+    (Line(16, "    up individual open, broadcast open\n       groups open"), 16, "a setting for groups 0-13 and", "none"),
+    (Line(16, "    up\n        all open"), 16, "'individual', 'broadcast'", END),
+    (Line(16, "    up all open\n       groups open"), 17, "'down', 'up', 'both' or 'table'", "'groups'"),
     (Line(16, ""), 14, "a line 'up' below", "none"),
     (Line(11, ""), 10, "the lines 'down' and 'up', or 'both', below", "none"),
     (Line(15, "    dwon all open"), 15, "'down', 'up', 'both' or 'table'", "'dwon'"),
