@@ -3,7 +3,7 @@
 mod support;
 
 use planner::fault::Fault;
-use planner::loading::{judge, Failure};
+use planner::loading::{load_text, Failure};
 use planner::text::read;
 use std::collections::HashSet;
 use support::broken::{all, GOOD};
@@ -175,7 +175,7 @@ fn damaged_texts_are_read_or_draw_faults() {
             damage(generator, &mut octets);
         }
         let lines = octets.split(|octet| *octet == b'\n').count();
-        match judge("some.site", &octets) {
+        match load_text("some.site", &octets) {
             Err(Failure::Faulty(faults)) => {
                 let at: Vec<usize> = faults.iter().filter_map(|fault| fault.line).collect();
                 assert!(at.is_sorted() && at.len() == faults.len() && !at.is_empty());
@@ -227,4 +227,24 @@ fn damage(generator: &mut Generator, octets: &mut Vec<u8>) {
         _ => [one_of(generator, &words).as_bytes(), &octets[start..end]].concat(),
     };
     octets.splice(start..end, inserted);
+}
+
+/// docs/SITE-TEXT.md shows a site, and a text with what is wrong with it.
+#[test]
+fn the_page_shows_what_is_read_and_told() {
+    let page = include_str!("../../../docs/SITE-TEXT.md");
+    let blocks: Vec<&str> = page.split("```").skip(1).step_by(2).collect();
+    let [site, broken, told] = blocks[..] else {
+        panic!("{} blocks", blocks.len());
+    };
+    let text = |block: &str| block.strip_prefix("text\n").expect("a text").to_string();
+    let site = load_text("plant.site", text(site).as_bytes()).expect("a well-formed site");
+    let plan = &site.text.plan;
+    assert_eq!(
+        (plan.couplers.len(), plan.project.len(), plan.own.len()),
+        (3, 1, 1)
+    );
+    let faults = read("plant.site", text(broken).as_bytes()).unwrap_err();
+    let drawn: String = faults.iter().map(|fault| format!("{fault}\n")).collect();
+    assert_eq!(drawn, text(told));
 }

@@ -4,7 +4,7 @@
 mod support;
 
 use klumdray::Refusal;
-use planner::loading::{judge, load, Failure, RefusedSite};
+use planner::loading::{load, load_text, Failure, RefusedSite};
 use planner::octets::octets_of;
 use std::fs;
 use std::path::Path;
@@ -14,7 +14,7 @@ use support::refusal;
 use support::sites::{refused_site, well_formed_site};
 
 fn refused(text: &str) -> Option<RefusedSite> {
-    match judge("some.site", text.as_bytes()) {
+    match load_text("some.site", text.as_bytes()) {
         Ok(_) => None,
         Err(Failure::Refused(site)) => Some(site),
         Err(other) => panic!("{other:?} of {text}"),
@@ -24,6 +24,7 @@ fn refused(text: &str) -> Option<RefusedSite> {
 const OPEN: &str = "individual open, broadcast open, groups open";
 
 /// Below a coupler, before which a table and a good coupler stand: so its own line is 7.
+#[rustfmt::skip]
 const REFUSED: [(&str, Refusal, usize, &str); 17] = [
     ("coupler 0.0\n both all open", Refusal::SETTING, 7, "line 0.0 has no coupler"),
     ("coupler 0.0\n both all filter", Refusal::SETTING, 7, "line 0.0"),
@@ -91,7 +92,7 @@ fn a_well_formed_site_is_not_refused() {
         let plan = well_formed_site(generator);
         let expected = octets_of(&plan).expect("octets");
         let (text, layout) = some_layout(generator, plan);
-        let site = judge("some.site", text.as_bytes()).expect("a site");
+        let site = load_text("some.site", text.as_bytes()).expect("a site");
         assert_eq!((site.text, site.octets), (layout, expected));
     }
 }
@@ -99,7 +100,7 @@ fn a_well_formed_site_is_not_refused() {
 #[test]
 fn a_text_without_anything_is_a_site_without_couplers() {
     for text in ["", "\n\n", "# nothing yet", "\u{feff}", " \r\n\t"] {
-        let site = judge("some.site", text.as_bytes()).expect("a site");
+        let site = load_text("some.site", text.as_bytes()).expect("a site");
         assert_eq!(site.octets, Default::default());
     }
 }

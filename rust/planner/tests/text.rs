@@ -12,6 +12,38 @@ use support::sites::some_site;
 
 const SITES: usize = 10_000;
 
+/// "mark 43h 50h, line, four codes main to sub, four codes sub to main, table number"; P11: "group
+/// 6FFFh is bit 7 of octet 3,583; 7000h is bit 0 of octet 3,584".
+#[test]
+fn octets_are_as_document_01_says() {
+    let text = b"table o\n 13/7/255, 14/0/0\n 0901h - 0909h\nproject table p\n 0, 65535\n\
+        coupler 4.7\n\
+        \x20 down individual closed, broadcast open, groups 0-13 filter, groups 14-31 open\n\
+        \x20 up individual filter, broadcast closed, groups 0-13 open, groups 14-31 filter\n\
+        \x20 table o\n\
+        coupler 15.15\n both all open\n table p\n\
+        coupler 0.1\n both all closed\n";
+    let octets = octets_of(&read("some.site", text).expect("a site").plan).expect("octets");
+    let records = [
+        [0x43, 0x50, 0x47, 0, 2, 1, 2, 1, 0, 2, 1, 128],
+        [0x43, 0x50, 0xff, 2, 2, 2, 2, 2, 2, 2, 2, 0],
+        [0x43, 0x50, 0x01, 0, 0, 0, 0, 0, 0, 0, 0, 0xff],
+    ];
+    assert_eq!(octets.records, records.as_flattened());
+    let own = [(0x120, 0xfe), (0x121, 0x03), (3583, 0x80), (3584, 0x01)];
+    assert_eq!(octets.own, table(&own));
+    assert_eq!(octets.project, table(&[(0, 0x01), (8191, 0x80)]));
+}
+
+/// A filter table of these octets, at their places, and otherwise 0.
+fn table(octets: &[(usize, u8)]) -> Vec<u8> {
+    let mut table = vec![0; 8192];
+    for (place, octet) in octets {
+        table[*place] = *octet;
+    }
+    table
+}
+
 /// Plan to octets to plan; octets to plan to text to plan to octets; text to octets to text; and a
 /// text in another layout to the same site.
 #[test]
