@@ -455,6 +455,20 @@ fn no_text_lies_over_another_or_over_a_mark() {
     });
 }
 
+#[test]
+fn no_text_of_the_legend_lies_over_a_sample() {
+    for_each(|case| {
+        let children = case.picture.children.iter();
+        let mut legends = children.filter(|child| class(child) == "legend");
+        let areas = drawn_areas(legends.next().expect("a legend")).into_iter();
+        let (texts, samples): (Vec<_>, Vec<_>) = areas.partition(|(_, one)| one.name == "text");
+        for (area, text) in texts {
+            let over = samples.iter().find(|(sample, _)| sample.meets(&area));
+            assert!(over.is_none(), "{text:?} and {over:?}");
+        }
+    });
+}
+
 /// "Treating area 0 lines as if they hung below an area coupler" looks right and is wrong.
 #[test]
 fn each_link_goes_from_the_main_side_to_the_line() {
