@@ -44,8 +44,7 @@ fn says(ended: &Ended, status: i32, output: &str, errors: &str) {
 #[test]
 fn the_plant() {
     let output = "\
-examples/plant.site:33: note: broadcasts come into line 2.2 but none leave: nothing there can answer
-examples/plant.site:58: note: main line 5.0 has no coupler, which cuts line 5.1 off from the backbone
+examples/plant.site:57: note: main line 5.0 has no coupler, which cuts line 5.1 off from the backbone
 examples/plant.site: well-formed: 10 couplers, 3 filter tables (0 in the project store)
 ";
     says(
