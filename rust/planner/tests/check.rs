@@ -8,7 +8,7 @@ mod tool;
 
 use planner::address::{Group, Line};
 use planner::findings::{findings, Kind};
-use planner::loading::{load, translate, Site};
+use planner::loading::{load, load_text, translate};
 use planner::plan::{Class, Coupler, Direction, Setting, Store, TableAt};
 use planner::text::{read, write, SiteText};
 use planner::tracing::{trace, Destination, Telegram};
@@ -388,13 +388,7 @@ fn notes_on_random_sites() {
     let mut drawn = Vec::new();
     for _ in 0..cases(500) {
         let text = write(&SiteText::of(well_formed_site(generator)));
-        let text = read("a.site", text.as_bytes()).expect("a text that can be read");
-        let octets = translate(&text.plan).expect("octets");
-        let site = Site {
-            file: "a.site".into(),
-            text,
-            octets,
-        };
+        let site = load_text("a.site", text.as_bytes()).expect("a well-formed site");
         let notes = findings(&site).expect("an answer").into_iter();
         let notes: Vec<(usize, Kind)> = notes.map(|note| (note.line, note.kind)).collect();
         assert_eq!(notes, expected_notes(&site.text), "{}", write(&site.text));

@@ -1,20 +1,12 @@
 //! Each kind of note: sites that draw it, and near misses that draw none.
 
 use planner::findings::{findings, Kind};
-use planner::loading::{judge, translate, Site};
+use planner::loading::load_text;
 use planner::plan::{Class, Setting};
-use planner::text::read;
 
 /// Each note of a site's text as "LINE KIND: WORDS".
 fn notes(text: &str) -> Vec<String> {
-    let text = read("a.site", text.as_bytes()).expect("a text that can be read");
-    let octets = translate(&text.plan).expect("octets");
-    let site = Site {
-        file: "a.site".into(),
-        text,
-        octets,
-    };
-    assert_eq!(judge(&site), None);
+    let site = load_text("a.site", text.as_bytes()).expect("a well-formed site");
     let notes = findings(&site).expect("an answer").into_iter();
     notes
         .map(|note| format!("{} {}: {}", note.line, note.kind.name(), note.words))
