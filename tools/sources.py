@@ -1,4 +1,4 @@
-"""What the checks in tools/ read of the crates: functions with their contracts, and must-fail edits."""
+"""What the checks in tools/ read of the crates: functions with their contracts, and wrong programs."""
 
 import pathlib
 import re
@@ -90,9 +90,9 @@ def functions(crate):
 
 def edits(crate=None):
     found = []
-    for file in sorted(ROOT.glob(f"crates/{crate or '*'}/must-fail/*.edit")):
+    for file in sorted(ROOT.glob(f"crates/{crate or '*'}/must-fail/programs/*.edit")):
         text = file.read_text()
-        found.append(Edit(file.parent.parent.name, file.stem, file, text, list(pairs(text))))
+        found.append(Edit(file.parents[2].name, file.stem, file, text, list(pairs(text))))
     return found
 
 
