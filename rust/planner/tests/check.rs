@@ -13,7 +13,7 @@ use planner::plan::{Class, Coupler, Direction, Setting, Store, TableAt};
 use planner::text::{read, write, SiteText};
 use planner::tracing::{trace, Destination, Telegram};
 use std::fs;
-use support::generator::{seed, Generator};
+use support::generator::{inputs, seed, Generator};
 use support::sites::{some_site, well_formed_site};
 use tool::{klumdray, root, scratch, Ended};
 
@@ -209,21 +209,13 @@ fn notes_for_scripts() {
     says(&check("script", text, &["--json"]), WELL_FORMED, output, "");
 }
 
-/// Fewer where each call goes to an emulated process.
-fn cases(usual: usize) -> usize {
-    match klumdray::LINKED {
-        "emulated" => usual / 25,
-        _ => usual,
-    }
-}
-
 /// A random site is well-formed exactly if the reference says so, else refused by the same number,
 /// at a line of the coupler whose record draws it.
 #[test]
 fn refusals_are_the_reference_s() {
     let generator = &mut Generator::new(seed());
     let mut refused = [0; 19];
-    for _ in 0..cases(400) {
+    for _ in 0..inputs(400, 100) {
         let text = write(&SiteText::of(some_site(generator)));
         let ended = check("random", &text, &[]);
         let text = read("a.site", text.as_bytes()).expect("a text that can be read");
@@ -386,7 +378,7 @@ fn is_one_way(text: &SiteText, coupler: &Coupler, closed: Direction, class: Clas
 fn notes_on_random_sites() {
     let generator = &mut Generator::new(seed());
     let mut drawn = Vec::new();
-    for _ in 0..cases(500) {
+    for _ in 0..inputs(500, 20) {
         let text = write(&SiteText::of(well_formed_site(generator)));
         let site = load_text("a.site", text.as_bytes()).expect("a well-formed site");
         let notes = findings(&site).expect("an answer").into_iter();

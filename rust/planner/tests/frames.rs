@@ -7,7 +7,7 @@ mod frames;
 mod generator;
 
 use frames::{broken, mend_total, whole};
-use generator::{seed, Generator};
+use generator::{inputs, seed, Generator};
 use klumdray::Refusal;
 use planner::frame::place::{place, Expected, Place};
 use planner::frame::{tell, Kind, Told};
@@ -264,7 +264,8 @@ fn a_place_is_where_its_refusal_comes_from() {
     println!("KLUMDRAY_SEED={seed:#x}");
     let mut generator = Generator::new(seed);
     let mut seen: BTreeMap<(&str, u8), usize> = BTreeMap::new();
-    for round in 0..60_000 {
+    let rounds = inputs(60_000, 6_000);
+    for round in 0..rounds {
         let kind = Kind::ALL[round % 3];
         let octets = broken(&mut generator, kind);
         let Err(refusal) = kind.read(&octets) else {
@@ -281,7 +282,7 @@ fn a_place_is_where_its_refusal_comes_from() {
     }
     let numbers = |token| {
         let of_kind = seen.iter().filter(move |((kind, _), _)| *kind == token);
-        let often = of_kind.filter(|(_, times)| **times >= 20);
+        let often = of_kind.filter(|(_, times)| **times >= rounds / 3_000);
         often.map(|((_, number), _)| *number).collect::<Vec<u8>>()
     };
     assert_eq!(numbers("tp1"), [1, 2, 3, 4, 5, 6], "{seen:?}");

@@ -22,19 +22,15 @@ use reference::site::{main_side, Site};
 use reference::tracer::{self, Query, Reason, Stop, ROOM_SIZE};
 use std::collections::{BTreeMap, BTreeSet};
 use std::{fs, panic, thread};
-use support::generator::{seed, Generator};
+use support::generator::{inputs, seed, Generator};
 use support::one_of;
 use support::sites::{site_without_tables, spoil, well_formed_site};
 use tool::{klumdray, scratch, Ended, Printed};
 
 const THREADS: usize = 3;
 
-/// Fewer where each call goes to an emulated process.
 fn cases() -> usize {
-    match klumdray::LINKED {
-        "emulated" => 40,
-        _ => 1000,
-    }
+    inputs(1000, 40)
 }
 
 /// Runs the cases in a few threads and counts what each was about. A case has a generator of its

@@ -14,6 +14,15 @@ pub fn seed() -> u64 {
     seed.unwrap_or_else(|error| panic!("KLUMDRAY_SEED {text:?}: {error}"))
 }
 
+/// How many inputs a test makes: fewer where each call goes to an emulated process.
+#[allow(dead_code)]
+pub fn inputs(usual: usize, emulated: usize) -> usize {
+    match klumdray::LINKED {
+        "emulated" => emulated,
+        _ => usual,
+    }
+}
+
 /// SplitMix64.
 pub struct Generator(u64);
 
