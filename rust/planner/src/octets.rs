@@ -4,12 +4,10 @@
 
 use crate::address::{Group, Line};
 use crate::plan::{Coupler, Groups, Plan, Setting, Store, TableAt};
-use klumdray::tracer::Site;
+use klumdray::coupler::TABLE_SIZE;
+use klumdray::tracer::{Site, RECORD_SIZE};
 
 const MARK: [u8; 2] = [0x43, 0x50];
-const RECORD: usize = 12;
-/// Octets of a filter table.
-pub const TABLE: usize = 8192;
 /// Tables that the project store holds; the site's own numbers begin there.
 pub const PROJECT_TABLES: usize = 128;
 /// Tables that the site's own store holds.
@@ -43,13 +41,13 @@ impl Octets {
 
     /// How many couplers there are.
     pub fn couplers(&self) -> usize {
-        self.records.len() / RECORD
+        self.records.len() / RECORD_SIZE
     }
 
     /// The site of the first couplers alone.
     pub fn first(&self, couplers: usize) -> Site<'_> {
         Site {
-            records: &self.records[..couplers * RECORD],
+            records: &self.records[..couplers * RECORD_SIZE],
             project: &self.project,
             own: &self.own,
         }
@@ -76,7 +74,7 @@ pub fn octets_of(plan: &Plan) -> Option<Octets> {
     if !fits || !names_its_tables(plan) {
         return None;
     }
-    let records: Vec<[u8; RECORD]> = plan.couplers.iter().map(record_of).collect();
+    let records: Vec<[u8; RECORD_SIZE]> = plan.couplers.iter().map(record_of).collect();
     Some(Octets {
         records: records.concat(),
         project: store_of(&plan.project),
@@ -90,8 +88,8 @@ fn names_its_tables(plan: &Plan) -> bool {
     tables.all(|table| plan.has(table))
 }
 
-fn record_of(coupler: &Coupler) -> [u8; RECORD] {
-    let mut record = [0; RECORD];
+fn record_of(coupler: &Coupler) -> [u8; RECORD_SIZE] {
+    let mut record = [0; RECORD_SIZE];
     record[..2].copy_from_slice(&MARK);
     record[2] = coupler.line.0;
     for (code, setting) in record[3..11]
@@ -119,7 +117,7 @@ fn store_of(tables: &[Groups]) -> Vec<u8> {
 
 /// "bit g mod 8 of octet g div 8".
 fn table_of(groups: &Groups) -> Vec<u8> {
-    let mut table = vec![0; TABLE];
+    let mut table = vec![0; TABLE_SIZE];
     for (first, last) in groups.ranges() {
         for group in first.0..=last.0 {
             table[usize::from(group) / 8] |= 1 << (group % 8);
@@ -131,7 +129,7 @@ fn table_of(groups: &Groups) -> Vec<u8> {
 /// Translates octets back to a site; none where they are no site that words can say, be it for a
 /// mark, a code, a length or the number of a table that is not there.
 pub fn plan_of(octets: &Octets) -> Option<Plan> {
-    let records = octets.records.chunks(RECORD);
+    let records = octets.records.chunks(RECORD_SIZE);
     let couplers: Option<Vec<Coupler>> = records.map(coupler_of).collect();
     let plan = Plan {
         couplers: couplers?,
@@ -142,7 +140,7 @@ pub fn plan_of(octets: &Octets) -> Option<Plan> {
 }
 
 fn coupler_of(record: &[u8]) -> Option<Coupler> {
-    if record.len() != RECORD || record[..2] != MARK {
+    if record.len() != RECORD_SIZE || record[..2] != MARK {
         return None;
     }
     let mut settings = [[Setting::Closed; 4]; 2];
@@ -172,7 +170,7 @@ fn table_at(number: u8) -> Option<TableAt> {
 }
 
 fn tables_of(store: &[u8], most: usize) -> Option<Vec<Groups>> {
-    let tables = store.chunks_exact(TABLE);
+    let tables = store.chunks_exact(TABLE_SIZE);
     if !tables.remainder().is_empty() || tables.len() > most {
         return None;
     }

@@ -94,13 +94,10 @@ pub struct Traced {
     pub not_reached: Vec<Stop>,
 }
 
-/// The room that a list never fills: 256 lines of three octets.
-const ROOM: usize = 768;
-
 /// Asks the library where a telegram arrives, and for each other line of the site why not.
 pub fn trace(site: &Site, telegram: &Telegram) -> Result<Traced, Refusal> {
     let (query, octets) = (telegram.query(), site.octets.site());
-    let mut room = [0; ROOM];
+    let mut room = [0; tracer::LIST_ROOM_SIZE];
     let traced = tracer::trace(&query, &octets, &mut room)?;
     let mut not_reached = Vec::new();
     for line in lines(site, telegram) {

@@ -117,15 +117,11 @@ impl Scene<'_> {
     }
 
     fn label(&self, line: Line) -> String {
-        let text = &self.site.text;
-        let mut couplers = text.plan.couplers.iter().zip(&text.couplers);
-        let own = couplers.find(|(coupler, _)| coupler.line == line);
-        let label = own.and_then(|(_, text)| text.label.clone());
-        label.unwrap_or_else(|| match (line.0 >> 4, line.0 & 15) {
-            (0, 0) => "backbone".into(),
-            (area, 0) => format!("main line of area {area}"),
+        match (self.site.label(line), line.0 >> 4, line.0 & 15) {
+            (Some(label), ..) => label.into(),
+            (None, area, 0) => format!("main line of area {area}"),
             _ => String::new(),
-        })
+        }
     }
 }
 
