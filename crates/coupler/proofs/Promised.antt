@@ -36,14 +36,14 @@ use Rattle.cemi.specs.declared.CemiAnswer.the-variants.{Frame as Message-is}
 
 -- "A coupler forwards exactly if address, settings and hop count allow it and the frame is no repetition." (`mayPass` holds of no frame
 -- for the coupler itself.)
-pub record Lets (k : Setting) (remembered : List ℕ) (m : Meaning) : Type 0 where
+pub record Forwardable (k : Setting) (remembered : List ℕ) (m : Meaning) : Type 0 where
   pub passes : mayPass (k .line) (k .codes) (k .table) (k .side) (m .group) (m .destination) ≡ true
   pub counted : m .count ≡ 0 → ⊥
   pub new : repeats k remembered m ≡ false
 
 -- accepted, and let through
 abbrev pub Forwards : Setting → List ℕ → Heard → Type 0
-Forwards k remembered (frame m p) = Lets k remembered m
+Forwards k remembered (frame m p) = Forwardable k remembered m
 Forwards k remembered (nothing r) = ⊥
 
 some-octets : (k : Setting) (m : Meaning) (p : List ℕ) → length (forwardedOctets k m p) ≡ 0 → ⊥
@@ -54,8 +54,8 @@ some-octets k m p = go (toIp k)
     go true e = omega (arith, length-routing (indication (forwardedMeaning m)) p)
     go false e = omega (arith, length-octets (forwardedMeaning m) p)
 
-lets-iff : (k : Setting) (remembered : List ℕ) (m : Meaning) → isForwarded k (repeats k remembered m) m ≡ true ↔ Lets k remembered m
-lets-iff k remembered m = (
+forwardable-iff : (k : Setting) (remembered : List ℕ) (m : Meaning) → isForwarded k (repeats k remembered m) m ≡ true ↔ Forwardable k remembered m
+forwardable-iff k remembered m = (
   (λ e.
       let a = and-true (isAllowed k m) (not (repeats k remembered m)) e in
       let q = and-true (mayPass (k .line) (k .codes) (k .table) (k .side) (m .group) (m .destination)) (not (eqb (m .count) 0)) (a .0) in
@@ -64,16 +64,16 @@ lets-iff k remembered m = (
 )
 
 pub forwarded-iff : (k : Setting) (remembered : List ℕ) (h : Heard) → (outcomeOf k remembered h .forwarded ≡ 0 → ⊥) ↔ Forwards k remembered h
-forwarded-iff k remembered (frame m p) = (go (isForwarded k (repeats k remembered m) m) refl, λ f e. some-octets k m p (rw (lets-iff k remembered m .1 f) at e))
+forwarded-iff k remembered (frame m p) = (go (isForwarded k (repeats k remembered m) m) refl, λ f e. some-octets k m p (rw (forwardable-iff k remembered m .1 f) at e))
   where
-    go : (b : Bool) → isForwarded k (repeats k remembered m) m ≡ b → (length (cond b (forwardedOctets k m p) []) ≡ 0 → ⊥) → Lets k remembered m
-    go true e n = lets-iff k remembered m .0 e
+    go : (b : Bool) → isForwarded k (repeats k remembered m) m ≡ b → (length (cond b (forwardedOctets k m p) []) ≡ 0 → ⊥) → Forwardable k remembered m
+    go true e n = forwardable-iff k remembered m .0 e
     go false e n = absurd (n refl)
 forwarded-iff k remembered (nothing r) = ((λ n. absurd (n refl)), λ f. absurd f)
 
 -- what is sent is the layout of the meaning with the count by the hop rule and first sending
-pub sent-is : (k : Setting) (remembered : List ℕ) (m : Meaning) (p : List ℕ) → Lets k remembered m → sent k remembered (frame m p) ≡ forwardedOctets k m p
-sent-is k remembered m p f = rw (lets-iff k remembered m .1 f)
+pub sent-is : (k : Setting) (remembered : List ℕ) (m : Meaning) (p : List ℕ) → Forwardable k remembered m → sent k remembered (frame m p) ≡ forwardedOctets k m p
+sent-is k remembered m p f = rw (forwardable-iff k remembered m .1 f)
 
 -- and reads back, by the reader of its medium, as just that
 forwarded-valid : (m : Meaning) (p : List ℕ) → Valid m p → Valid (forwardedMeaning m) p

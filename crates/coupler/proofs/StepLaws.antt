@@ -11,9 +11,11 @@ use Rattle.cemi.specs.Writing.{messageInRange}
 use Rattle.cemi.specs.declared.CemiAnswer.{CemiAnswer}
 use Rattle.cemi.specs.declared.Codes.the-variants.{IndicationOnly}
 use Rattle.cemi.specs.declared.Message.{Message}
-use Rattle.coupler.specs.Memory.{kept, recalled, sideOf, rememberedOn, rememberedIf, isRepetition}
+use Rattle.coupler.specs.Memory.{kept, recalled, sideOf, rememberedOn, isRepetition}
+use Rattle.coupler.specs.Stages.{rememberedIf}
 use Rattle.coupler.specs.Passing.{hopped}
-use Rattle.coupler.specs.Step.{Setting, settingTests, judgedBy, fromIp, Heard, heardTp1, heardIp, readBy, after, heard, repeats, forwardedMeaning, indication, formOf, putSize, Sent, sentOf, acceptedOutcome, refusedOutcome, PassedOn, outcomeOf, HandedOn, memoryAfter, Did, frame, nothing}
+use Rattle.coupler.specs.Step.{Setting, settingTests, judgedBy, fromIp, Heard, heardTp1, heardIp, readBy, after, heard, repeats, forwardedMeaning, indication, formOf, sentOf, acceptedOutcome, refusedOutcome, outcomeOf, HandedOn, memoryAfter, Did, frame, nothing}
+use Rattle.coupler.specs.Stages.{putSize, Sent, PassedOn}
 use Rattle.coupler.specs.declared.Memory.{Memory}
 use Rattle.coupler.specs.declared.Outcome.{Outcome}
 use Rattle.coupler.specs.declared.Remembered.{Remembered}

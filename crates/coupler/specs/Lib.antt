@@ -4,3 +4,5 @@ pub mod Memory
 pub mod Step
 pub mod Hearing
 pub mod Series
+pub mod Stages
+pub mod Answers

@@ -41,10 +41,6 @@ rememberedOn m side frame =
     record { main = remembering (m .main) frame; sub = m .sub }
     record { main = m .main; sub = remembering (m .sub) frame }
 
--- "Afterwards the accepted frame is the remembered one."; the other side's is as it was
-unfoldable pub rememberedIf : Bool → Memory → ℕ → List ℕ → Memory
-rememberedIf accepted m side frame = cond accepted (rememberedOn m side frame) m
-
 -- "An accepted frame marked repeated is a repetition if the remembered frame has the same source, destination and AT."
 unfoldable pub isRepetition : List ℕ → Meaning → Bool
 isRepetition frame m =

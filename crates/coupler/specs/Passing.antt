@@ -13,14 +13,14 @@ unfoldable pub isOwn : ℕ → Bool → ℕ → Bool
 isOwn line group destination = not group && eqb destination (line * 256)
 
 -- "forward if bit g mod 8 of octet g div 8 in the 8,192-octet filter table is one"
-abbrev pub listedOctet : ℕ → ℕ
-listedOctet g = g / 8
+abbrev pub tableOctet : ℕ → ℕ
+tableOctet g = g / 8
 
-abbrev pub listedBit : ℕ → ℕ
-listedBit g = g % 8
+abbrev pub tableBit : ℕ → ℕ
+tableBit g = g % 8
 
-unfoldable pub isListed : List ℕ → ℕ → Bool
-isListed table g = eqb (octetAt table (listedOctet g) / 2 ^ listedBit g % 2) 1
+unfoldable pub isInTable : List ℕ → ℕ → Bool
+isInTable table g = eqb (octetAt table (tableOctet g) / 2 ^ tableBit g % 2) 1
 
 -- "where n mod 16 is not 0, down if the destination's high octet is n ..; otherwise down if the destination's area is the coupler's area"
 unfoldable pub isBelow : ℕ → ℕ → Bool
@@ -29,7 +29,7 @@ isBelow line destination = cond (eqb (line % 16) 0) (eqb (destination / 4096) (l
 -- what code 1 says: for groups the table, which broadcast never asks; for individual addresses "down if .. is .., up if it isn't"
 unfoldable pub isRuled : ℕ → List ℕ → ℕ → Bool → ℕ → Bool
 isRuled line table direction group destination =
-    cond group (not (eqb destination 0) && isListed table destination) (cond (eqb direction 0) (isBelow line destination) (not (isBelow line destination)))
+    cond group (not (eqb destination 0) && isInTable table destination) (cond (eqb direction 0) (isBelow line destination) (not (isBelow line destination)))
 
 -- what one code says of an address: "Code 0 is closed, 2 open."
 abbrev pub codePasses : ℕ → ℕ → List ℕ → ℕ → Bool → ℕ → Bool

@@ -9,8 +9,6 @@ use Rattle.octets.specs.Room.{over}
 use Rattle.frame.specs.declared.Meaning.{Meaning}
 use Rattle.frame.specs.declared.Refusal.{Refusal}
 use Rattle.frame.specs.declared.Refusal.the-variants.{WrongSetting, NoTable, OutOfRange, SmallRoom}
-use Rattle.frame.specs.declared.Written.{Written}
-use Rattle.frame.specs.declared.Written.the-variants.{Put, Refused as Unwritten}
 use Rattle.frame.specs.Refusals.{number}
 use Rattle.frame.specs.Order.{Test, _gives_, Verdict, pass, refuse, firstOf}
 use Rattle.tp1.specs.declared.Tp1Answer.{Tp1Answer}
@@ -130,15 +128,6 @@ formOf ip m p = cond ip (routingOctets (indication (forwardedMeaning m)) p) (tp1
 abbrev pub forwardedOctets : Setting → Meaning → List ℕ → List ℕ
 forwardedOctets k m p = formOf (toIp k) m p
 
-abbrev pub putSize : Written → ℕ
-putSize (Put n) = n
-putSize (Unwritten r) = 0
-
--- octets that were sent: how many, and the room with them at its front
-pub record Sent (octets room : List ℕ) (size : ℕ) (room′ : List ℕ) : Type 0 where
-  pub count : size ≡ length octets
-  pub left : room′ ≡ over octets room
-
 -- "octets forwarded (0 if none)"
 abbrev pub sentOf : Setting → Bool → Meaning → List ℕ → List ℕ
 sentOf k repetition m p = cond (isForwarded k repetition m) (forwardedOctets k m p) []
@@ -155,11 +144,6 @@ acceptedOutcome k repetition m p = record {
 -- "On a refusal: its number, none, not, 0."
 abbrev pub refusedOutcome : Refusal → Outcome
 refusedOutcome r = record { number = number r; acknowledgement = Silence; own = false; forwarded = 0 }
-
--- what becomes of an accepted frame, and of the room
-pub record PassedOn (k : Setting) (repetition : Bool) (m : Meaning) (p room : List ℕ) (o : Outcome) (room′ : List ℕ) : Type 0 where
-  pub outcome : o ≡ acceptedOutcome k repetition m p
-  pub left : room′ ≡ over (sentOf k repetition m p) room
 
 abbrev pub outcomeOf : Setting → List ℕ → Heard → Outcome
 outcomeOf k remembered (frame m p) = acceptedOutcome k (repeats k remembered m) m p

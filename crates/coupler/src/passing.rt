@@ -2,7 +2,7 @@
 ghost use mathlib.Core.Path.{_≡_};
 ghost use Prim.Native.Nat.{_<_};
 ghost use Rattle.coupler.specs.Settings.{classOf};
-ghost use Rattle.coupler.specs.Passing.{isOwn, isListed, isBelow, isRuled, ruledOut};
+ghost use Rattle.coupler.specs.Passing.{isOwn, isInTable, isBelow, isRuled, ruledOut};
 use crate::Passage;
 
 pub(crate) fn class_of(group: bool, destination: u16) -> usize
@@ -24,8 +24,8 @@ pub(crate) fn is_own(line: u8, group: bool, destination: u16) -> bool
     !group & (destination == line as u16 * 256)
 }
 
-fn is_listed(table: &[u8], address: u16) -> bool
-    ensures { λ r. ⌜ r ≡ isListed (now (table .entry)) address ⌝ }
+fn is_in_table(table: &[u8], address: u16) -> bool
+    ensures { λ r. ⌜ r ≡ isInTable (now (table .entry)) address ⌝ }
 {
     let octet = octets::octet(table, (address / 8) as usize);
     let bit = (address % 8) as u8;
@@ -46,7 +46,7 @@ pub(crate) fn is_ruled(line: u8, table: &[u8], direction: u8, group: bool, desti
     ensures { λ r. ⌜ r ≡ isRuled line (now (table .entry)) direction group destination ⌝ }
 {
     if group {
-        return (destination != 0) & is_listed(table, destination);
+        return (destination != 0) & is_in_table(table, destination);
     }
     let below = is_below(line, destination);
     if direction == 0 { below } else { !below }

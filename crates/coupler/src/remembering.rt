@@ -1,7 +1,8 @@
 // The frames that the TP1 sides remember, by value.
 ghost use mathlib.Core.Path.{_≡_};
 ghost use Prim.Native.Nat.{_≤_};
-ghost use Rattle.coupler.specs.Memory.{noFrame, kept, remembering, sideOf, rememberedOn, rememberedIf};
+ghost use Rattle.coupler.specs.Memory.{noFrame, kept, remembering, sideOf, rememberedOn};
+ghost use Rattle.coupler.specs.Stages.{rememberedIf};
 use crate::Memory;
 use crate::Remembered;
 

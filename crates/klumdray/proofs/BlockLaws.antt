@@ -16,7 +16,8 @@ use Rattle.coupler.specs.declared.Memory.{Memory}
 use Rattle.coupler.specs.declared.Outcome.{Outcome}
 use Rattle.frame.proofs.Numbers.{refused-number}
 use Rattle.frame.specs.declared.Meaning.{Meaning}
-use Rattle.klumdray.specs.Block.{rememberedIn, memoryIn, halfOf, blockOf, startOf, keptIn, rememberedAt, outcomeNumber, heardThrough, SteppedThrough}
+use Rattle.klumdray.specs.Block.{rememberedIn, memoryIn, halfOf, blockOf, outcomeNumber, heardThrough, SteppedThrough}
+use Rattle.klumdray.specs.Stages.{startOf, keptIn, rememberedAt}
 use Rattle.octets.proofs.Below.{and-true}
 use Rattle.octets.proofs.Octets.{octets-take, octets-drop}
 use Rattle.octets.proofs.Room.{laid-front, laid-left, laid-right}

@@ -11,7 +11,8 @@ use Rattle.frame.specs.Writing.{written, roomAfter, Wrote}
 use Rattle.frame.specs.declared.Meaning.{Meaning}
 use Rattle.frame.specs.declared.Refusal.the-variants.{OutOfRange}
 use Rattle.frame.specs.declared.Written.{Written}
-use Rattle.klumdray.specs.Numbers.{flagsOf, meaningNumber, codeNumber, writtenNumber, Sized, WroteNumber}
+use Rattle.klumdray.specs.Numbers.{flagsOf, meaningNumber, codeNumber, writtenNumber, WroteNumber}
+use Rattle.klumdray.specs.Stages.{Sized}
 use Rattle.klumdray.specs.Traces.{TracedThrough}
 use Rattle.octets.proofs.Weigh.{weigh-most}
 use Rattle.site.specs.Stores.{Stores}

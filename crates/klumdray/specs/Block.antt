@@ -5,13 +5,12 @@ use mathlib.Core.Path.{_≡_}
 use mathlib.Core.List.{List, [], _∷_, _++_}
 use mathlib.Core.Bool.{Bool, cond, _&&_}
 use lib.ListN.{length, take, drop}
-use lib.Dec.{leb, eqb}
+use lib.Dec.{eqb}
 use Rattle.octets.specs.Octets.{octetAt, weigh}
 use Rattle.octets.specs.Word.{high, low, wordAt}
-use Rattle.octets.specs.Room.{laid, over}
+use Rattle.octets.specs.Room.{over}
 use Rattle.frame.specs.declared.Refusal.the-variants.{OutOfRange}
-use Rattle.coupler.specs.declared.Acknowledgement.{Acknowledgement}
-use Rattle.coupler.specs.declared.Acknowledgement.the-variants.{Silence, Acknowledged}
+use Rattle.coupler.specs.Answers.{acknowledgementNumber}
 use Rattle.coupler.specs.declared.Outcome.{Outcome}
 use Rattle.coupler.specs.declared.Remembered.{Remembered}
 use Rattle.coupler.specs.declared.Memory.{Memory}
@@ -31,27 +30,12 @@ halfOf r = high (r .size) ∷ low (r .size) ∷ r .octets
 unfoldable pub blockOf : Memory → List ℕ
 blockOf m = halfOf (m .main) ++ halfOf (m .sub)
 
--- where a side's half begins, how many octets of it are the frame's, and the block with a frame put there
-abbrev pub startOf : ℕ → ℕ
-startOf side = cond (eqb side 0) 0 265
-
-abbrev pub keptIn : List ℕ → ℕ → ℕ
-keptIn block start = cond (leb (wordAt block start) 263) (wordAt block start) 0
-
-unfoldable pub rememberedAt : ℕ → List ℕ → List ℕ → List ℕ
-rememberedAt start s block = laid s (start + 2) (laid (high (length s % 65536) ∷ low (length s % 65536) ∷ []) start block)
-
 -- the eight codes of the surface, main to sub and then sub to main
 abbrev pub codesIn : List ℕ → List (List ℕ)
 codesIn s =
     (octetAt s 0 ∷ octetAt s 1 ∷ octetAt s 2 ∷ octetAt s 3 ∷ [])
     ∷ (octetAt s 4 ∷ octetAt s 5 ∷ octetAt s 6 ∷ octetAt s 7 ∷ [])
     ∷ []
-
--- CCh, or 0 for none
-abbrev pub acknowledgementNumber : Acknowledgement → ℕ
-acknowledgementNumber Silence = 0
-acknowledgementNumber Acknowledged = 0xCC
 
 -- bits 0 to 7 the number, 8 to 15 the acknowledgement, 16 for itself, 32 to 47 the octets forwarded (no step sends more than 270)
 unfoldable pub outcomeNumber : Outcome → ℕ

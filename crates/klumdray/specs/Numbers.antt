@@ -1,5 +1,5 @@
 -- The numbers that cross the surface: include/klumdray.h says the same in its words.
-use Prim.Native.Nat.{ℕ, _+_, _*_, _%_, _^_, _<_}
+use Prim.Native.Nat.{ℕ, _+_, _*_, _%_, _^_}
 use mathlib.Core.Bool.{Bool, cond, _&&_}
 use mathlib.Core.List.{List}
 use mathlib.Core.Path.{_≡_}
@@ -70,11 +70,6 @@ messageFrom code error m = record { code = code; error = eqb error 1; meaning = 
 abbrev pub writtenNumber : Written → ℕ
 writtenNumber (Put n) = n * 2 ^ 8
 writtenNumber (Unwritten r) = number r
-
--- a size that its number holds
-abbrev pub Sized : Written → Type 0
-Sized (Put n) = n < 2 ^ 16
-Sized (Unwritten r) = Unit {0}
 
 -- what a writer of the surface answers and leaves in the room: the inner writer's answer, as a number
 pub record WroteNumber (ranged : Bool) (octets room : List ℕ) (answer : ℕ) (after : List ℕ) : Type 0 where

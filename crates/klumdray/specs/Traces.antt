@@ -3,8 +3,7 @@ use Prim.Native.Nat.{ℕ, _+_, _*_, _%_, _^_}
 use mathlib.Core.List.{List}
 use mathlib.Core.Path.{_≡_}
 use lib.ListN.{length}
-use Rattle.coupler.specs.declared.Passage.the-variants.{Passes, NotFitted, OwnAddress, Closed, NotBelow, NotAbove, NotInTable, UsedUp}
-use Rattle.coupler.specs.declared.Passage.{Passage}
+use Rattle.coupler.specs.Answers.{passageNumber}
 use Rattle.frame.specs.Order.{firstOf}
 use Rattle.frame.specs.Refusals.{number}
 use Rattle.octets.specs.Room.{over}
@@ -18,17 +17,6 @@ use Rattle.tracer.specs.declared.Traced.{Traced}
 -- bits 0 to 7: the refusal's number or 0; 8 to 23: how many lines are listed; 24 to 39: the forwardings made
 unfoldable pub tracedNumber : Traced → ℕ
 tracedNumber t = t .number + t .lines % 65536 * 2 ^ 8 + t .forwardings % 65536 * 2 ^ 24
-
--- "no coupler fitted; its own address; the code is closed; code 1 and not below / not above; code 1 and not in its table; the count is used up"
-abbrev pub passageNumber : Passage → ℕ
-passageNumber Passes = 0
-passageNumber NotFitted = 1
-passageNumber OwnAddress = 2
-passageNumber Closed = 3
-passageNumber NotBelow = 4
-passageNumber NotAbove = 5
-passageNumber NotInTable = 6
-passageNumber UsedUp = 7
 
 -- bits 0 to 7: the refusal's number or 0; 8 to 15: the reason, 0 if the line is reached; 16 to 23: the coupler's line; 24: the direction of travel
 abbrev pub explanationNumber : Explanation → ℕ

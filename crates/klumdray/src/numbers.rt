@@ -1,7 +1,8 @@
 // Answers as the numbers that cross the surface, and a caller's numbers as a meaning.
 ghost use mathlib.Core.Path.{_≡_};
 ghost use Prim.Native.Nat.{_<_};
-ghost use Rattle.klumdray.specs.Numbers.{flagsOf, meaningNumber, tp1Number, codeNumber, messageNumber, cemiNumber, areFlags, meaningFrom, messageFrom, writtenNumber, Sized};
+ghost use Rattle.klumdray.specs.Numbers.{flagsOf, meaningNumber, tp1Number, codeNumber, messageNumber, cemiNumber, areFlags, meaningFrom, messageFrom, writtenNumber};
+ghost use Rattle.klumdray.specs.Stages.{Sized};
 use cemi::CemiAnswer;
 use cemi::Message;
 use frame::Meaning;

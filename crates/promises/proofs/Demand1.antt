@@ -9,12 +9,8 @@ use lib.ListN.{length}
 use borrow.Author.Tests.{eqb-false}
 use Rattle.cemi.specs.Reading.{body, messageIn, cemiTests, readCemi}
 use Rattle.cemi.specs.declared.Codes.{Codes}
-use Rattle.coupler.specs.Memory.{recalled, sideOf}
-use Rattle.coupler.specs.Step.{Setting, settingTests, fromIp, Heard, readBy, after, heard, outcomeOf, sent, memoryAfter, Did, frame, nothing}
-use Rattle.coupler.specs.declared.Memory.{Memory}
-use Rattle.coupler.specs.declared.Outcome.{Outcome}
 use Rattle.frame.proofs.Numbers.{refused-number, number-apart}
-use Rattle.frame.specs.Order.{Test, Verdict, firstOf, answerBy, NoneOf, FirstIs, pass, refuse}
+use Rattle.frame.specs.Order.{Verdict, firstOf, pass, refuse}
 use Rattle.frame.specs.Refusals.{number}
 use Rattle.frame.specs.Writing.{writeTests, written, Wrote}
 use Rattle.frame.specs.declared.Refusal.{Refusal}
@@ -22,7 +18,7 @@ use Rattle.octets.specs.Octets.{octetAt}
 use Rattle.octets.specs.Room.{over}
 use Rattle.routing.specs.Reading.{message, routingTests, readRouting}
 use Rattle.site.specs.Stores.{Stores}
-use Rattle.tp1.specs.Reading.{meaningIn, tp1Tests, readFrom, readTp1}
+use Rattle.tp1.specs.Reading.{meaningIn, tp1Tests, readTp1}
 use Rattle.tracer.specs.Listing.{Query}
 use Rattle.tracer.specs.Tracing.{traceTests, tracedBy, listBy, DidTrace}
 use Rattle.tracer.specs.Why.{whyOf, whyTests, answerWhy}
@@ -32,18 +28,7 @@ use Rattle.frame.specs.declared.Written.the-variants.{Put, Refused as Unwritten
 use Rattle.tp1.specs.declared.Tp1Answer.the-variants.{Frame as Tp1-frame, Refused as Tp1-refused}
 use Rattle.cemi.specs.declared.CemiAnswer.the-variants.{Frame as Cemi-frame, Refused as Cemi-refused}
 use Rattle.tracer.specs.declared.Explanation.the-variants.{Refused as Unexplained}
-
--- an answer where no test of the order is true; otherwise the refusal of the first one that is
-pub data Ends {A : Type 0} (refused : Refusal → A) (answer : A) (ts : List Test) (given : A) : Type 0 where
-  answers : NoneOf ts → given ≡ answer → Ends refused answer ts given
-  refuses : (r : Refusal) → FirstIs ts r → given ≡ refused r → Ends refused answer ts given
-
-ends : {A : Type 0} (refused : Refusal → A) (answer : A) (ts : List Test) → Ends refused answer ts (answerBy refused answer (firstOf ts))
-ends refused answer ts = go (firstOf ts) refl
-  where
-    go : (v : Verdict) → firstOf ts ≡ v → Ends refused answer ts (answerBy refused answer (firstOf ts))
-    go pass e = answers (passed-iff ts .0 e) (ap (answerBy refused answer) e)
-    go (refuse r) e = refuses r (order-iff ts r .0 e) (ap (answerBy refused answer) e)
+use Rattle.promises.proofs.Ends.{Ends, ends, answers, refuses}
 
 -- each number stands for one refusal, and 0 for none
 pub numbers-apart : (q r : Refusal) → number q ≡ number r → q ≡ r
@@ -54,7 +39,7 @@ zero-is-none r = eqb-false (number r) 0 (refused-number r)
 
 -- the readers: whatever the octets are
 pub tp1-ends : (s : List ℕ) → Ends Tp1-refused (Tp1-frame (meaningIn s)) (tp1Tests s) (readTp1 s)
-unfolding readFrom
+unfolding readTp1
 tp1-ends s = ends Tp1-refused (Tp1-frame (meaningIn s)) (tp1Tests s)
 
 pub cemi-ends : (codes : Codes) (s : List ℕ) → Ends Cemi-refused (Cemi-frame (messageIn (octetAt s 0) (body s))) (cemiTests codes s) (readCemi codes s)
@@ -69,15 +54,6 @@ routing-ends s = ends Cemi-refused (Cemi-frame (messageIn (octetAt (message s) 0
 pub writer-ends : (ranged : Bool) (octets room : List ℕ) → Ends Unwritten (Put (length octets)) (writeTests ranged octets room) (written ranged octets room)
 unfolding written
 writer-ends ranged octets room = ends Unwritten (Put (length octets)) (writeTests ranged octets room)
-
--- the step: the settings' refusals, "then the reader's"
-pub step-ends : (k : Setting) (s : List ℕ) (room : ℕ) → Ends nothing (readBy (fromIp k) s) (settingTests k room) (heard k s room)
-unfolding heard
-step-ends k s room = go (firstOf (settingTests k room)) refl
-  where
-    go : (v : Verdict) → firstOf (settingTests k room) ≡ v → Ends nothing (readBy (fromIp k) s) (settingTests k room) (heard k s room)
-    go pass e = answers (passed-iff (settingTests k room) .0 e) (ap (λ v. after v (readBy (fromIp k) s)) e)
-    go (refuse r) e = refuses r (order-iff (settingTests k room) r .0 e) (ap (λ v. after v (readBy (fromIp k) s)) e)
 
 -- the tracer and its explanation: whatever the site, the stores, the query and the room
 pub trace-ends : (st : Stores) (site : List ℕ) (q : Query) (room : ℕ)
@@ -96,13 +72,6 @@ why-ends st site q line = ends Unexplained (whyOf st site q line) (whyTests st s
 -- "A refused call writes to no buffer and changes no memory."
 pub writer-refused : (ranged : Bool) (octets room room′ : List ℕ) (r : Refusal) → Wrote ranged octets room (Unwritten r) room′ → room′ ≡ room
 writer-refused ranged octets room room′ r w = w .left
-
-pub step-refused : (k : Setting) (m m′ : Memory) (s room room′ : List ℕ) (o : Outcome) → Did k m s room o m′ room′ → (o .number ≡ 0 → ⊥) → (m′ ≡ m) × (room′ ≡ room)
-step-refused k m m′ s room room′ o d n = go (heard k s (length room)) refl
-  where
-    go : (h : Heard) → heard k s (length room) ≡ h → (m′ ≡ m) × (room′ ≡ room)
-    go (frame x p) e = absurd (n (ap (λ (u : Outcome). u .number) (d .handed .outcome ∙ ap (outcomeOf k (recalled (sideOf m (k .side)))) e)))
-    go (nothing r) e = (d .memory ∙ ap (memoryAfter k m s) e, d .handed .left ∙ ap (λ (h : Heard). over (sent k (recalled (sideOf m (k .side))) h) room) e)
 
 pub trace-refused : (st : Stores) (site : List ℕ) (q : Query) (room room′ : List ℕ) (answer : Traced) → DidTrace st site q room answer room′ → (answer .number ≡ 0 → ⊥)
     → (room′ ≡ room) × ((answer .lines ≡ 0) × (answer .forwardings ≡ 0))

@@ -10,19 +10,14 @@ use lib.ListN.{length, drop}
 use borrow.Author.Tests.{le-ltb}
 use Rattle.frame.proofs.Order.{passed-iff}
 use Rattle.frame.specs.Order.{Verdict, firstOf, NoneOf, pass}
-use Rattle.frame.specs.Valid.{Valid}
-use Rattle.frame.specs.declared.Meaning.{Meaning}
 use Rattle.octets.specs.Room.{over}
 use Rattle.site.specs.Stores.{Stores}
 use Rattle.site.specs.WellFormed.{isAmong, siteTests}
-use Rattle.tp1.specs.Layout.{tp1Octets}
 use Rattle.tracer.proofs.Explained.{reached-iff, StoppedAt, not-reached}
-use Rattle.tracer.proofs.Journey.{list-is-journey}
 use Rattle.tracer.proofs.ListLaws.{linesOf, Rising, start-listed, entry-listed, trace-three-each, trace-rises, trace-has, trace-less-one}
 use Rattle.tracer.proofs.Paths.{distance-four}
-use Rattle.tracer.specs.Journey.{ArrivesWith, askedOf, ListedWith}
 use Rattle.tracer.specs.Lines.{path, distance}
-use Rattle.tracer.specs.Listing.{isListed, Query, letsPass, allPass, lasts, onArrival, entry, listed, linesListed}
+use Rattle.tracer.specs.Listing.{isListed, Query, crossingPasses, allPass, lasts, onArrival, entry, listed, linesListed}
 use Rattle.tracer.specs.Tracing.{isQuery, traceTests, tracedBy, listBy, DidTrace}
 use Rattle.tracer.specs.Why.{whyOf}
 use Rattle.tracer.specs.declared.Explanation.the-variants.{Reached, NotReached}
@@ -37,14 +32,14 @@ pub record Lists (st : Stores) (site : List ℕ) (q : Query) (room : List ℕ) (
   -- three octets for each line
   pub counted : length (listed st site q) ≡ answer .lines * 3
   -- exactly those lines
-  pub exactly : (line : ℕ) → line < 256 → isAmong line (linesOf (listed st site q)) ≡ allPass (letsPass st site q) (path (q .start) line) && lasts (q .count) (length (path (q .start) line))
+  pub exactly : (line : ℕ) → line < 256 → isAmong line (linesOf (listed st site q)) ≡ allPass (crossingPasses st site q) (path (q .start) line) && lasts (q .count) (length (path (q .start) line))
   -- each once, in rising order
   pub rising : Rising (linesOf (listed st site q))
   -- with count on arrival and couplers crossed
-  pub entries : (line : ℕ) → isListed (letsPass st site q) (q .start) (q .count) line ≡ true
-      → entry (letsPass st site q) (q .start) (q .count) line ≡ line ∷ onArrival (q .count) (length (path (q .start) line)) ∷ length (path (q .start) line) ∷ []
+  pub entries : (line : ℕ) → isListed (crossingPasses st site q) (q .start) (q .count) line ≡ true
+      → entry (crossingPasses st site q) (q .start) (q .count) line ≡ line ∷ onArrival (q .count) (length (path (q .start) line)) ∷ length (path (q .start) line) ∷ []
   -- "The starting line is always listed"
-  pub start : isListed (letsPass st site q) (q .start) (q .count) (q .start) ≡ true
+  pub start : isListed (crossingPasses st site q) (q .start) (q .count) (q .start) ≡ true
   -- "the number of forwardings made on the site, which is the number of listed lines less one"
   pub forwarded : answer .forwardings ≡ answer .lines - 1
 
@@ -63,8 +58,8 @@ lists-exactly st site q room room′ answer w a b h d =
       counted = trace-three-each st site q ∙ ap (λ (k : ℕ). k * 3) (sym n);
       exactly = trace-has st site q;
       rising = trace-rises st site q;
-      entries = entry-listed (letsPass st site q) (q .start) (q .count);
-      start = start-listed (letsPass st site q) (q .start) (q .count);
+      entries = entry-listed (crossingPasses st site q) (q .start) (q .count);
+      start = start-listed (crossingPasses st site q) (q .start) (q .count);
       forwarded = ap (λ (u : Traced). u .forwardings) t ∙ trace-less-one st site q b ∙ ap (λ (k : ℕ). k - 1) (sym n);
     }
 
@@ -72,14 +67,8 @@ lists-exactly st site q room room′ answer w a b h d =
 pub at-most-four : (start line : ℕ) → distance start line ≤ 4
 at-most-four = distance-four
 
--- the list is what the couplers do: a line is listed with a count exactly if a first sending put on the starting line, handed on by the
--- step of coupler after coupler and never back over the one by which it came, arrives there with that count
-pub as-couplers-do : (st : Stores) (site : List ℕ) → firstOf (siteTests st site) ≡ pass → (start : ℕ) (m : Meaning) (p : List ℕ) → Valid m p → m .first ≡ true → (line count : ℕ)
-    → ListedWith st site (askedOf start m) line count ↔ ArrivesWith st site start (tp1Octets m p) line count
-as-couplers-do = list-is-journey
-
 -- why a line is not reached: 'reached' exactly for the listed lines ..
-pub reached-exactly : (st : Stores) (site : List ℕ) (q : Query) → q .count ≤ 7 → (line : ℕ) → whyOf st site q line ≡ Reached ↔ (isListed (letsPass st site q) (q .start) (q .count) line ≡ true)
+pub reached-exactly : (st : Stores) (site : List ℕ) (q : Query) → q .count ≤ 7 → (line : ℕ) → whyOf st site q line ≡ Reached ↔ (isListed (crossingPasses st site q) (q .start) (q .count) line ≡ true)
 reached-exactly = reached-iff
 
 -- .. and otherwise the first coupler on the path that does not hand the telegram on, for the reason that it has with the count on arrival

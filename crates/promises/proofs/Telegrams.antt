@@ -3,22 +3,22 @@ use mathlib.Core.Path.{refl}
 use Rattle.octets.specs.Check.{checkOctet}
 use Rattle.frame.specs.Fields.{isControl, controlOf, ctrleOf, fieldsMeaning}
 use Rattle.tp1.specs.Layout.{head, sealed, tp1Octets}
-use Rattle.tp1.specs.Reading.{isExtended, headSize, isOtherFormat, isEscape, frameSize, isChecked, meaningIn, readFrom}
+use Rattle.tp1.specs.Reading.{isExtended, headSize, isOtherFormat, isEscape, frameSize, isChecked, meaningIn, readTp1}
 use Rattle.cemi.specs.Reading.{body, isOtherFormat as isOtherBody, isEscape as isEscapeBody, isLongStandard, bodySize, messageIn}
 use Rattle.routing.specs.Header.{isOtherHeader, isOtherService, isOtherLength}
 use Rattle.routing.specs.Reading.{readRouting}
 use Rattle.coupler.specs.Settings.{classOf, isCode, isRow, areCodes, asksTable, tableFits}
-use Rattle.coupler.specs.Passing.{isOwn, isListed, isBelow, isRuled, mayPass}
+use Rattle.coupler.specs.Passing.{isOwn, isInTable, isBelow, isRuled, mayPass}
 use Rattle.coupler.specs.Memory.{isRepetition}
 use Rattle.coupler.specs.Step.{heard, acknowledgementBy, formOf}
 use Rattle.site.specs.Records.{recordsOf, isMarked, codesOf, couplerOf}
 use Rattle.site.specs.Stores.{isStored, tableAt, tableOf, isStore, areStores}
 use Rattle.site.specs.WellFormed.{hasTable, siteTests}
-use Rattle.site.specs.Letting.{passes, lets}
+use Rattle.site.specs.Letting.{recordPasses, lineLetsPass}
 use Rattle.tracer.specs.Lines.{mainSide, depth, mainSides, path, distance}
-use Rattle.tracer.specs.Listing.{lasts, isListed as isOnList, onArrival, entry, listed, linesListed, isForwardedTo, forwardings}
+use Rattle.tracer.specs.Listing.{lasts, isListed, onArrival, entry, listed, linesListed, isForwardedTo, forwardings}
 use Rattle.promises.specs.Telegrams.{Every, cases}
 
 pub every : Every cases
-unfolding checkOctet isControl controlOf ctrleOf fieldsMeaning head sealed tp1Octets isExtended headSize isOtherFormat isEscape frameSize isChecked meaningIn readFrom body isOtherBody isEscapeBody isLongStandard bodySize messageIn isOtherHeader isOtherService isOtherLength readRouting classOf isCode isRow areCodes asksTable tableFits isOwn isListed isBelow isRuled mayPass isRepetition heard acknowledgementBy formOf recordsOf isMarked codesOf couplerOf isStored tableAt tableOf isStore areStores hasTable siteTests passes lets mainSide depth mainSides path distance lasts isOnList onArrival entry listed linesListed isForwardedTo forwardings
+unfolding checkOctet isControl controlOf ctrleOf fieldsMeaning head sealed tp1Octets isExtended headSize isOtherFormat isEscape frameSize isChecked meaningIn readTp1 body isOtherBody isEscapeBody isLongStandard bodySize messageIn isOtherHeader isOtherService isOtherLength readRouting classOf isCode isRow areCodes asksTable tableFits isOwn isInTable isBelow isRuled mayPass isRepetition heard acknowledgementBy formOf recordsOf isMarked codesOf couplerOf isStored tableAt tableOf isStore areStores hasTable siteTests recordPasses lineLetsPass mainSide depth mainSides path distance lasts isListed onArrival entry listed linesListed isForwardedTo forwardings
 every = (refl, (refl, (refl, (refl, (refl, (refl, ((refl, refl), ((refl, refl), ((refl, refl), ((refl, refl), ((refl, refl), ((refl, refl), ((refl, refl), ((refl, refl), ((refl, refl), ((refl, refl), ((refl, refl), tt)))))))))))))))))

@@ -4,12 +4,12 @@ use mathlib.Core.Bool.{true, false}
 use mathlib.Core.List.{List, [], _∷_, _++_}
 use mathlib.Core.Path.{_≡_}
 use lib.ListN.{length}
-use Rattle.coupler.specs.Passing.{listedOctet, listedBit}
+use Rattle.coupler.specs.Passing.{tableOctet, tableBit}
 use Rattle.coupler.specs.Step.{Setting, settingOf, Heard, heard, outcomeOf, sent}
 use Rattle.frame.specs.Order.{Verdict, firstOf}
 use Rattle.frame.specs.Refusals.{number}
 use Rattle.frame.specs.declared.Meaning.{Meaning}
-use Rattle.klumdray.specs.Block.{acknowledgementNumber}
+use Rattle.coupler.specs.Answers.{acknowledgementNumber}
 use Rattle.site.specs.Stores.{stores}
 use Rattle.tp1.specs.Reading.{payloadIn, readTp1}
 use Rattle.tp1.specs.declared.Tp1Answer.the-variants.{Frame, Refused}
@@ -58,7 +58,7 @@ asked q site = firstOf (traceTests (stores [] []) site q 768)
 abbrev pub Holds : Case → Type 0
 Holds (tp1 s is a) = said (readTp1 s) s ≡ a
 Holds (k hears s and d) = Handles k (heard k s 272) d
-Holds (bit g is b of o) = (listedBit g ≡ b) × (listedOctet g ≡ o)
+Holds (bit g is b of o) = (tableBit g ≡ b) × (tableOctet g ≡ o)
 Holds (q on site lists l by n) =
     (tracedBy (stores [] []) site q (asked q site) ≡ record { number = 0; lines = length l / 3; forwardings = n }) × (listBy (stores [] []) site q (asked q site) ≡ l)
 

@@ -8,7 +8,8 @@ use native.Mathlib.Omega.{arith}
 use lib.Dec.{ltb}
 use borrow.Author.Tests.{ltb-false, lt-ltb, le-ltb}
 use Rattle.report.proofs.Puts.{puts-then}
-use Rattle.report.specs.Text.{digit, decimalBy, decimal, Puts, Fits}
+use Rattle.report.specs.Text.{digit, decimalBy, decimal}
+use Rattle.report.specs.Stages.{Puts, Fits}
 
 decimal-by : (k j n : ℕ) → n < k → n < j → decimalBy k n ≡ decimalBy j n
 decimal-by zero j n h g = absurd (omega arith)

@@ -3,7 +3,8 @@ use Prim.Native.Nat.{ℕ, _/_, _%_}
 use mathlib.Core.List.{List, _++_}
 use Rattle.report.proofs.Puts.{fits-first, fits-then, puts-then}
 use Rattle.report.specs.Ascii.{ascii}
-use Rattle.report.specs.Text.{decimal, told, lineText, Puts, Fits}
+use Rattle.report.specs.Text.{decimal, told, lineText}
+use Rattle.report.specs.Stages.{Puts, Fits}
 
 abbrev named : ℕ → List ℕ
 named line = decimal (line / 16) ++ told (ascii ".") (line % 16)

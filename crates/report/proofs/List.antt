@@ -9,7 +9,8 @@ use Rattle.octets.proofs.Room.{laid-fits}
 use Rattle.octets.proofs.Split.{firsts, firsts-drop}
 use Rattle.octets.specs.Room.{laid}
 use Rattle.report.proofs.Puts.{fits-first, laid-then, fits-then}
-use Rattle.report.specs.Text.{lineText, listText, Puts, Fits}
+use Rattle.report.specs.Text.{lineText, listText}
+use Rattle.report.specs.Stages.{Puts, Fits}
 
 short-list : (s : List ℕ) → length s < 3 → listText s ≡ []
 short-list [] h = refl

@@ -7,7 +7,7 @@ use lib.ListN.{length, take, drop, length-append, length-drop}
 use lib.Seq.{length-take-le, drop-drop}
 use Rattle.octets.proofs.Room.{laid-fits, laid-front, laid-right}
 use Rattle.octets.specs.Room.{laid}
-use Rattle.report.specs.Text.{Puts, Fits}
+use Rattle.report.specs.Stages.{Puts, Fits}
 
 pub laid-length : (o : List ℕ) (at : ℕ) (room : List ℕ) → Fits o at room → length (laid o at room) ≡ length room
 laid-length o at room h = rw (laid-fits o at room h, length-append, length-append, length-take-le at room (omega arith), length-drop) (omega arith)

@@ -22,7 +22,8 @@ use Rattle.octets.specs.Word.{wordAt}
 use Rattle.report.proofs.Size.{length-told-line, length-list}
 use Rattle.report.specs.Ascii.{ascii}
 use Rattle.report.specs.Report.{queryIn, siteIn, noStores, queryTests, answerText, reportOf, reported, Reported}
-use Rattle.report.specs.Text.{toldLine, listText, Fits, Puts}
+use Rattle.report.specs.Text.{toldLine, listText}
+use Rattle.report.specs.Stages.{Fits, Puts}
 use Rattle.tracer.proofs.ListLaws.{trace-three-each}
 use Rattle.tracer.specs.Listing.{Query, queryOf, listed}
 use Rattle.tracer.specs.Tracing.{tracedBy, listBy, DidTrace}

@@ -1,3 +1,4 @@
 pub mod Ascii
 pub mod Text
 pub mod Report
+pub mod Stages

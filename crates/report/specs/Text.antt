@@ -1,11 +1,8 @@
 -- Document 01: "Program output for the first of P12, whole (area, point, line in decimal)": the text as ASCII, every line ended by 0Ah.
-use Prim.Native.Nat.{ℕ, zero, suc, _+_, _/_, _%_, _≤_}
+use Prim.Native.Nat.{ℕ, zero, suc, _+_, _/_, _%_}
 use mathlib.Core.Bool.{cond}
 use mathlib.Core.List.{List, [], _∷_, _++_}
-use mathlib.Core.Path.{_≡_}
 use lib.Dec.{ltb}
-use lib.ListN.{length}
-use Rattle.octets.specs.Room.{laid}
 use Rattle.report.specs.Ascii.{ascii}
 
 -- `0` is 30h, and the other digits follow it
@@ -39,12 +36,3 @@ listText [] = []
 listText (line ∷ []) = []
 listText (line ∷ count ∷ []) = []
 listText (line ∷ count ∷ crossed ∷ rest) = lineText line count crossed ++ listText rest
-
-abbrev pub Fits : List ℕ → ℕ → List ℕ → Type 0
-Fits text at room = at + length text ≤ length room
-
--- text put into a room from an index on, whole, and the index behind it
-pub record Puts (text : List ℕ) (at : ℕ) (room : List ℕ) (behind : ℕ) (after : List ℕ) : Type 0 where
-  pub fits : Fits text at room
-  pub ends : behind ≡ at + length text
-  pub put : after ≡ laid text at room

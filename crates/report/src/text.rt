@@ -1,6 +1,7 @@
 // The text, put into a lent room piece by piece; each gives the index behind what it put.
 ghost use Prim.Native.Nat.{_%_};
-ghost use Rattle.report.specs.Text.{Fits, Puts, digit, decimal, told, toldLine, lineText, listText};
+ghost use Rattle.report.specs.Text.{digit, decimal, told, toldLine, lineText, listText};
+ghost use Rattle.report.specs.Stages.{Fits, Puts};
 
 fn put(text: &[u8], at: usize, room: &mut [u8]) -> usize
     requires { ⌜ Fits (now text) at (now room) ⌝ }

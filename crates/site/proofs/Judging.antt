@@ -14,7 +14,8 @@ use Rattle.frame.proofs.Order.{first-passed, first-refused}
 use Rattle.frame.specs.Order.{firstOf}
 use Rattle.frame.specs.declared.Refusal.{Refusal}
 use Rattle.site.proofs.RecordLaws.{records-more, records-end, by-equal}
-use Rattle.site.specs.Records.{recordsOf, recordAt, lineOf}
+use Rattle.site.specs.Records.{recordsOf, lineOf}
+use Rattle.site.specs.Stages.{recordAt}
 use Rattle.site.specs.Stores.{Stores}
 use Rattle.site.specs.WellFormed.{isAmong, recordTests, recordsTests}
 use Rattle.coupler.specs.declared.Judged.the-variants.{Fine, Refused as NotFine}

@@ -13,8 +13,9 @@ use Rattle.coupler.specs.Passing.{mayPass, passageOf, doesPass}
 use Rattle.coupler.specs.declared.Passage.the-variants.{NotFitted}
 use Rattle.coupler.specs.declared.Passage.{Passage}
 use Rattle.site.proofs.RecordLaws.{records-more, records-end, by-equal}
-use Rattle.site.specs.Letting.{passes, letsBy, lets, Marks, passageBy, passageAt}
-use Rattle.site.specs.Records.{recordsOf, recordAt, lineOf, codesOf, tableNumber, couplerIn, couplerOf, isFitted}
+use Rattle.site.specs.Letting.{recordPasses, letsPass, lineLetsPass, Marks, passageBy, passageAt}
+use Rattle.site.specs.Records.{recordsOf, lineOf, codesOf, tableNumber, couplerIn, couplerOf, isFitted}
+use Rattle.site.specs.Stages.{recordAt}
 use Rattle.site.specs.Stores.{Stores, tableOf}
 
 -- a test of the record that is found, as the fold of its answers
@@ -62,15 +63,15 @@ letting-more {f} {site} {marks} {from} w h {octets} {line} {mark} r l b m = reco
 }
 
 pub letting-all : (st : Stores) (group : Bool) (destination direction : ℕ) {site : List ℕ} {marks : List Bool} {from : ℕ}
-    → Letting (letsBy st group destination direction) site marks from → length site - from < 12 → Marks (lets st group destination (recordsOf site) direction) marks
-unfolding lets
+    → Letting (letsPass st group destination direction) site marks from → length site - from < 12 → Marks (lineLetsPass st group destination (recordsOf site) direction) marks
+unfolding lineLetsPass
 letting-all st group destination direction {site} {marks} {from} w h = record {
   size = w .size;
   each = λ n hn. sym (rw (records-end site from h) at (w .each n hn));
 }
 
 pub lets-whole : (st : Stores) (group : Bool) (destination direction : ℕ) (octets : List ℕ) → length octets ≡ 12
-    → passes st group destination direction octets ≡ letsBy st group destination direction octets
+    → recordPasses st group destination direction octets ≡ letsPass st group destination direction octets
 lets-whole st group destination direction octets h = rw h refl
 
 -- the record that is found
@@ -102,15 +103,15 @@ seeking-all {site = site} {from = from} w h e = e ∙ sym (rw (records-end site 
 
 -- a coupler makes nothing of a telegram to stop it exactly if it is fitted, lets it pass, and the count is not used up
 pub passage-lets : (st : Stores) (group : Bool) (destination : ℕ) (records : List (List ℕ)) (direction line count : ℕ)
-    → doesPass (passageAt st group destination records direction line count) ≡ lets st group destination records direction line && not (eqb count 0)
-unfolding passageAt passageBy lets passes
+    → doesPass (passageAt st group destination records direction line count) ≡ lineLetsPass st group destination records direction line && not (eqb count 0)
+unfolding passageAt passageBy lineLetsPass recordPasses
 passage-lets st group destination records direction line count = pick (couplerOf line records)
   where
     by-fitted : (b : Bool) (p : Passage) (m n : Bool) → doesPass p ≡ m && n → doesPass (cond b p NotFitted) ≡ (b && m) && n
     by-fitted true p m n e = e
     by-fitted false p m n e = refl
 
-    pick : (r : List ℕ) → doesPass (passageBy st group destination direction count r) ≡ letsBy st group destination direction r && not (eqb count 0)
+    pick : (r : List ℕ) → doesPass (passageBy st group destination direction count r) ≡ letsPass st group destination direction r && not (eqb count 0)
     pick r =
         let table = tableOf (tableNumber r) st in
         by-fitted (isFitted r) (passageOf (lineOf r) (codesOf r) table direction group destination count) (mayPass (lineOf r) (codesOf r) table direction group destination) (not (eqb count 0))

@@ -10,7 +10,8 @@ use lib.Seq.{length-take-le, drop-drop}
 use borrow.Author.Tests.{eqb-true, eqb-false, le-leb}
 use Rattle.coupler.specs.Settings.{codeIn}
 use Rattle.octets.specs.Octets.{octetAt}
-use Rattle.site.specs.Records.{recordsOf, recordAt, codesOf}
+use Rattle.site.specs.Records.{recordsOf, codesOf}
+use Rattle.site.specs.Stages.{recordAt}
 
 pub records-more : (site : List ℕ) (from : ℕ) → 12 ≤ length site - from → recordsOf (drop from site) ≡ recordAt site from ∷ recordsOf (drop (from + 12) site)
 unfolding recordsOf recordAt

@@ -11,16 +11,16 @@ use Rattle.site.specs.Records.{lineOf, codesOf, tableNumber, couplerOf, 
 use Rattle.site.specs.Stores.{Stores, tableOf}
 
 -- a record's coupler, asked with its line, codes and table
-unfoldable pub passes : Stores → Bool → ℕ → ℕ → List ℕ → Bool
-passes st group destination direction r =
+unfoldable pub recordPasses : Stores → Bool → ℕ → ℕ → List ℕ → Bool
+recordPasses st group destination direction r =
     mayPass (lineOf r) (codesOf r) (tableOf (tableNumber r) st) direction group destination
 
-abbrev pub letsBy : Stores → Bool → ℕ → ℕ → List ℕ → Bool
-letsBy st group destination direction r = isFitted r && passes st group destination direction r
+abbrev pub letsPass : Stores → Bool → ℕ → ℕ → List ℕ → Bool
+letsPass st group destination direction r = isFitted r && recordPasses st group destination direction r
 
 -- whether the coupler of a line is fitted and lets the telegram pass
-unfoldable pub lets : Stores → Bool → ℕ → List (List ℕ) → ℕ → ℕ → Bool
-lets st group destination records direction line = letsBy st group destination direction (couplerOf line records)
+unfoldable pub lineLetsPass : Stores → Bool → ℕ → List (List ℕ) → ℕ → ℕ → Bool
+lineLetsPass st group destination records direction line = letsPass st group destination direction (couplerOf line records)
 
 -- a mark for each of the 256 lines
 pub record Marks (holds : ℕ → Bool) (marks : List Bool) : Type 0 where

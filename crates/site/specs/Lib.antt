@@ -2,3 +2,4 @@ pub mod Records
 pub mod Stores
 pub mod WellFormed
 pub mod Letting
+pub mod Stages

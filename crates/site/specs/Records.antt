@@ -1,9 +1,9 @@
 -- Document 01: "A site is 0 to 255 records of 12 octets: mark 43h 50h, line, four codes main to sub, four codes sub to main, table number."
 -- A record is the list of its octets; no octets stand for no coupler.
-use Prim.Native.Nat.{ℕ, zero, suc, _+_, _/_}
+use Prim.Native.Nat.{ℕ, zero, suc, _/_}
 use mathlib.Core.Bool.{Bool, not, cond, _&&_}
 use mathlib.Core.List.{List, [], _∷_}
-use lib.Dec.{leb, eqb}
+use lib.Dec.{eqb}
 use lib.ListN.{length, take, drop}
 use Rattle.octets.specs.Octets.{octetAt}
 
@@ -14,10 +14,6 @@ recordsBy (suc k) site = take 12 site ∷ recordsBy k (drop 12 site)
 
 unfoldable pub recordsOf : List ℕ → List (List ℕ)
 recordsOf site = recordsBy (length site / 12) site
-
--- the record that starts at an index: no octets where the site does not have it whole
-unfoldable pub recordAt : List ℕ → ℕ → List ℕ
-recordAt site from = cond (leb (from + 12) (length site)) (take 12 (drop from site)) []
 
 unfoldable pub isMarked : List ℕ → Bool
 isMarked r = eqb (octetAt r 0) 0x43 && eqb (octetAt r 1) 0x50

@@ -12,7 +12,7 @@ ghost use Rattle.coupler.specs.Step.{judgedBy};
 ghost use Rattle.site.specs.Stores.{stores};
 ghost use Rattle.site.specs.Records.{recordsOf};
 ghost use Rattle.site.specs.WellFormed.{hasTable, recordTests, recordsTests, siteTests};
-ghost use Rattle.site.specs.Letting.{passes, lets, Marks, passageAt};
+ghost use Rattle.site.specs.Letting.{recordPasses, lineLetsPass, Marks, passageAt};
 use coupler::Judged;
 use coupler::Passage;
 use frame::Refusal;
@@ -98,7 +98,7 @@ fn lets_pass<'a>(
     destination: u16,
 ) -> bool
     requires { ⌜ (class ≡ classOf group destination) × (class < 4) ⌝ }
-    ensures { λ r. ⌜ r ≡ passes (stores (now (project .entry)) (now (own .entry))) group destination direction (now (octets .entry)) ⌝ }
+    ensures { λ r. ⌜ r ≡ recordPasses (stores (now (project .entry)) (now (own .entry))) group destination direction (now (octets .entry)) ⌝ }
 {
     let line = records::line_of(octets);
     let code = records::code_at(octets, direction, class);
@@ -116,7 +116,7 @@ pub fn letting<'a>(
     group: bool,
     destination: u16,
 ) -> [bool; 256]
-    ensures { λ r. ⌜ Marks (lets (stores (now (project .entry)) (now (own .entry))) group destination (recordsOf (now (site .entry))) direction) r ⌝ }
+    ensures { λ r. ⌜ Marks (lineLetsPass (stores (now (project .entry)) (now (own .entry))) group destination (recordsOf (now (site .entry))) direction) r ⌝ }
 {
     let class = coupler::class_of(group, destination);
     let mut marks = [false; 256];

@@ -2,7 +2,8 @@
 ghost use mathlib.Core.Path.{_≡_};
 ghost use Prim.Native.Nat.{_<_};
 ghost use Rattle.coupler.specs.Settings.{codeIn};
-ghost use Rattle.site.specs.Records.{recordAt, recordsOf, isMarked, lineOf, codesOf, tableNumber, couplerOf};
+ghost use Rattle.site.specs.Records.{recordsOf, isMarked, lineOf, codesOf, tableNumber, couplerOf};
+ghost use Rattle.site.specs.Stages.{recordAt};
 
 // The record that starts at an index; empty where the site does not have it whole.
 pub(crate) fn record_at(site: &[u8], from: usize) -> &[u8]

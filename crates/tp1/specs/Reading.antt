@@ -58,12 +58,8 @@ tp1Tests s =
     ∷ not (isChecked s) gives WrongCheck
     ∷ []
 
--- what the octets are read as by the tests from the k-th on
-unfoldable pub readFrom : ℕ → List ℕ → Tp1Answer
-readFrom k s = answerBy Refused (Frame (meaningIn s)) (firstOf (drop k (tp1Tests s)))
-
-abbrev pub readTp1 : List ℕ → Tp1Answer
-readTp1 s = readFrom 0 s
+unfoldable pub readTp1 : List ℕ → Tp1Answer
+readTp1 s = answerBy Refused (Frame (meaningIn s)) (firstOf (tp1Tests s))
 
 -- "payload (TPCI onward ..)": between the head and the check octet. "With a refusal both are empty."
 abbrev pub payloadIn : Tp1Answer → List ℕ → List ℕ

@@ -19,7 +19,7 @@ use Rattle.site.specs.Stores.{Stores}
 use Rattle.tracer.proofs.Paths.{by-cases}
 use Rattle.tracer.proofs.ReachingLaws.{along-zero, reach-reached}
 use Rattle.tracer.specs.Lines.{Crossing, path}
-use Rattle.tracer.specs.Listing.{Query, letsPass, allPass, lasts, isListed, onArrival}
+use Rattle.tracer.specs.Listing.{Query, crossingPasses, allPass, lasts, isListed, onArrival}
 use Rattle.tracer.specs.Reaching.{handed, along, reach}
 use Rattle.tracer.specs.Why.{walked, whyBy, whyOf}
 use Rattle.tracer.specs.declared.Explanation.the-variants.{Reached, NotReached}
@@ -66,12 +66,12 @@ module _ (st : Stores) (site : List ℕ) (q : Query) (m : q .count ≤ 7) where
 
   -- after d couplers, with the count that is left
   going : (d : ℕ) (xs : List Crossing) → lasts (q .count) d ≡ true
-      → isGoing (walk (Going (onArrival (q .count) d)) xs) ≡ ltb 0 (along (letsPass st site q) (q .count) (suc d) xs)
+      → isGoing (walk (Going (onArrival (q .count) d)) xs) ≡ ltb 0 (along (crossingPasses st site q) (q .count) (suc d) xs)
   unfolding handed
   going d [] e = sym (lt-ltb 0 (suc d) (omega arith))
   going d (x ∷ xs) e =
       let p = passage x (onArrival (q .count) d) in
-      let f = letsPass st site q x in
+      let f = crossingPasses st site q x in
       let k : doesPass p ≡ f && lasts (q .count) (suc d) =
       passage-lets st (eqb (q .kind) 1) (q .destination) (recordsOf site) (x .direction) (x .line) (onArrival (q .count) d)
       ∙ ap (λ (b : Bool). f && b) (left-lasts (q .count) d e) in
@@ -82,7 +82,7 @@ module _ (st : Stores) (site : List ℕ) (q : Query) (m : q .count ≤ 7) where
       (λ n.
       rw (k, lt-ltb 0 (suc d) (omega arith), n)
       (ap isGoing (stopped-stays st site (eqb (q .kind) 1) (q .destination) (record { coupler = x .line; direction = x .direction; reason = p }) xs)
-      ∙ sym (ap (λ (l : ℕ). ltb 0 l) (along-zero (letsPass st site q) (q .count) xs))))
+      ∙ sym (ap (λ (l : ℕ). ltb 0 l) (along-zero (crossingPasses st site q) (q .count) xs))))
 
   from-start : (c : ℕ) → (lasts c 0 ≡ true) × (onArrival c 0 ≡ c)
   unfolding lasts onArrival
@@ -91,12 +91,12 @@ module _ (st : Stores) (site : List ℕ) (q : Query) (m : q .count ≤ 7) where
       (λ s. (rw s refl, rw s (sym (eqb-true c 7 s))))
       (λ s. (rw (s, le-leb 0 c (omega arith)) refl, rw s (omega arith)))
 
-  going-listed : (line : ℕ) → isGoing (walk (Going (q .count)) (path (q .start) line)) ≡ isListed (letsPass st site q) (q .start) (q .count) line
+  going-listed : (line : ℕ) → isGoing (walk (Going (q .count)) (path (q .start) line)) ≡ isListed (crossingPasses st site q) (q .start) (q .count) line
   unfolding reach
   going-listed line =
       ap (λ (c : ℕ). isGoing (walk (Going c) (path (q .start) line))) (sym (from-start (q .count) .1))
       ∙ going 0 (path (q .start) line) (from-start (q .count) .0)
-      ∙ reach-reached (letsPass st site q) (q .start) (q .count) line
+      ∙ reach-reached (crossingPasses st site q) (q .start) (q .count) line
 
   reached-going : (w : Walk) → whyBy w ≡ Reached → isGoing w ≡ true
   reached-going (Going count) e = refl
@@ -107,7 +107,7 @@ module _ (st : Stores) (site : List ℕ) (q : Query) (m : q .count ≤ 7) where
   going-reached (Stopped stop) e = let z : _≡_ {A = ℕ} 0 1 = cc in absurd (omega arith)
 
   -- "'reached' exactly for the listed lines"
-  pub reached-iff : (line : ℕ) → whyOf st site q line ≡ Reached ↔ (isListed (letsPass st site q) (q .start) (q .count) line ≡ true)
+  pub reached-iff : (line : ℕ) → whyOf st site q line ≡ Reached ↔ (isListed (crossingPasses st site q) (q .start) (q .count) line ≡ true)
   unfolding whyOf
   reached-iff line =
       let w = walk (Going (q .count)) (path (q .start) line) in
@@ -120,7 +120,7 @@ module _ (st : Stores) (site : List ℕ) (q : Query) (m : q .count ≤ 7) where
     pub here : Crossing
     pub behind : List Crossing
     pub place : xs ≡ ahead ++ (here ∷ behind)
-    pub pass : allPass (letsPass st site q) ahead ≡ true
+    pub pass : allPass (crossingPasses st site q) ahead ≡ true
     pub named : (stop .coupler ≡ here .line) × (stop .direction ≡ here .direction)
     pub reason : stop .reason ≡ passage here (onArrival (q .count) (crossed + length ahead))
     pub stops : doesPass (passage here (onArrival (q .count) (crossed + length ahead))) ≡ false
@@ -132,7 +132,7 @@ module _ (st : Stores) (site : List ℕ) (q : Query) (m : q .count ≤ 7) where
       let k = onArrival (q .count) d in
       by-cases (doesPass (passage x k))
       (λ t.
-      let a = and-true (letsPass st site q x) (not (eqb k 0)) (sym (passage-lets st (eqb (q .kind) 1) (q .destination) (recordsOf site) (x .direction) (x .line) k) ∙ t) in
+      let a = and-true (crossingPasses st site q x) (not (eqb k 0)) (sym (passage-lets st (eqb (q .kind) 1) (q .destination) (recordsOf site) (x .direction) (x .line) k) ∙ t) in
       let l : lasts (q .count) (suc d) ≡ true = sym (left-lasts (q .count) d h) ∙ a .1 in
       let s = stopped-at (suc d) xs stop l (ap (λ (c : ℕ). walk (Going c) xs) (sym (left-hopped (q .count) d m l)) ∙ (rw t at e)) in
       let j : suc d + length (s .ahead) ≡ d + suc (length (s .ahead)) = omega arith in
@@ -141,7 +141,7 @@ module _ (st : Stores) (site : List ℕ) (q : Query) (m : q .count ≤ 7) where
         here = s .here;
         behind = s .behind;
         place = ap (λ (l : List Crossing). x ∷ l) (s .place);
-        pass = ap (λ (b : Bool). b && allPass (letsPass st site q) (s .ahead)) (a .0) ∙ s .pass;
+        pass = ap (λ (b : Bool). b && allPass (crossingPasses st site q) (s .ahead)) (a .0) ∙ s .pass;
         named = s .named;
         reason = s .reason ∙ ap (λ (n : ℕ). passage (s .here) (onArrival (q .count) n)) j;
         stops = ap (λ (n : ℕ). doesPass (passage (s .here) (onArrival (q .count) n))) (sym j) ∙ s .stops;

@@ -10,7 +10,7 @@ use lib.Dec.{leb, eqb}
 use lib.ListN.{length, take, drop, length-append}
 use lib.Seq.{take-at}
 use borrow.Author.Tests.{leb-true, eqb-false, le-ltb, le-leb, ne-eqb}
-use Rattle.coupler.proofs.Promised.{Lets, forwarded-iff, sent-is}
+use Rattle.coupler.proofs.Promised.{Forwardable, forwarded-iff, sent-is}
 use Rattle.coupler.specs.Memory.{recalled, noMemory, sideOf, isRepetition}
 use Rattle.coupler.specs.Passing.{mayPass, hopped}
 use Rattle.coupler.specs.Step.{Setting, settingTests, fromIp, toIp, Heard, heardTp1, readBy, after, heard, forwardedMeaning, formOf, forwardedOctets, outcomeOf, sent, Did, frame, nothing}
@@ -20,7 +20,7 @@ use Rattle.frame.specs.Order.{Verdict, firstOf, pass}
 use Rattle.frame.specs.Valid.{Valid}
 use Rattle.frame.specs.declared.Meaning.{Meaning}
 use Rattle.octets.proofs.Below.{and-true}
-use Rattle.site.specs.Letting.{passes, lets}
+use Rattle.site.specs.Letting.{recordPasses, lineLetsPass}
 use Rattle.site.specs.Records.{recordsOf, lineOf, codesOf, tableNumber, couplerOf, isFitted}
 use Rattle.site.specs.Stores.{Stores, tableOf}
 use Rattle.site.specs.WellFormed.{siteTests}
@@ -90,25 +90,25 @@ module _ (st : Stores) (site : List ℕ) (w : firstOf (siteTests st site) ≡ pa
   sent-by e = ap (sent (settingBy st (couplerOf n (recordsOf site)) side) (recalled (sideOf noMemory side))) (heard-by e)
 
   pub hands-passes : (onward : List ℕ) → Hands st site n side (tp1Octets m p) onward
-      → (lets st (m .group) (m .destination) (recordsOf site) side n ≡ true) × ((m .count ≡ 0 → ⊥) × (onward ≡ tp1Octets (forwardedMeaning m) p))
-  unfolding lets passes
+      → (lineLetsPass st (m .group) (m .destination) (recordsOf site) side n ≡ true) × ((m .count ≡ 0 → ⊥) × (onward ≡ tp1Octets (forwardedMeaning m) p))
+  unfolding lineLetsPass recordPasses
   hands-passes onward x =
       let r : List ℕ = couplerOf n (recordsOf site) in
       let k : Setting = settingBy st r side in
       let remembered : List ℕ = recalled (sideOf noMemory side) in
       let e : sent k remembered (frame m p) ≡ onward = sym (sent-by (x .fitted)) ∙ x .sends in
-      let l : Lets k remembered m = forwarded-iff k remembered (frame m p) .0 (λ z. x .some (ap length (sym e) ∙ z)) in
+      let l : Forwardable k remembered m = forwarded-iff k remembered (frame m p) .0 (λ z. x .some (ap length (sym e) ∙ z)) in
       (rw (x .fitted, l .passes) refl, (l .counted, sym e ∙ sent-is k remembered m p l ∙ on-tp1 k m p (no-ip (eqb side 1))))
 
-  pub passes-hands : lets st (m .group) (m .destination) (recordsOf site) side n ≡ true → (m .count ≡ 0 → ⊥)
+  pub passes-hands : lineLetsPass st (m .group) (m .destination) (recordsOf site) side n ≡ true → (m .count ≡ 0 → ⊥)
       → Hands st site n side (tp1Octets m p) (tp1Octets (forwardedMeaning m) p)
-  unfolding lets passes
+  unfolding lineLetsPass recordPasses
   passes-hands a c =
       let r : List ℕ = couplerOf n (recordsOf site) in
       let k : Setting = settingBy st r side in
       let remembered : List ℕ = recalled (sideOf noMemory side) in
       let q = and-true (isFitted r) (mayPass (lineOf r) (codesOf r) (tableOf (tableNumber r) st) side (m .group) (m .destination)) a in
-      let l : Lets k remembered m = record { passes = q .1; counted = c; new = rw (first-new remembered m new) (no-ip (not (fromIp k))) } in
+      let l : Forwardable k remembered m = record { passes = q .1; counted = c; new = rw (first-new remembered m new) (no-ip (not (fromIp k))) } in
       record {
         fitted = q .0;
         sends = sent-by (q .0) ∙ sent-is k remembered m p l ∙ on-tp1 k m p (no-ip (eqb side 1));

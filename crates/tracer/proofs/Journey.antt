@@ -17,7 +17,7 @@ use Rattle.frame.specs.Order.{firstOf, pass}
 use Rattle.frame.specs.Valid.{Valid}
 use Rattle.frame.specs.declared.Meaning.{Meaning}
 use Rattle.octets.specs.Octets.{octetAt, Octets}
-use Rattle.site.specs.Letting.{lets}
+use Rattle.site.specs.Letting.{lineLetsPass}
 use Rattle.site.specs.Records.{recordsOf, couplerOf}
 use Rattle.site.specs.Stores.{Stores}
 use Rattle.site.specs.WellFormed.{isAmong, siteTests}
@@ -29,23 +29,23 @@ use Rattle.tracer.proofs.Fitted.{fitted-set, fitted-line, fitted-below}
 use Rattle.tracer.proofs.Handing.{hands-passes, passes-hands, hopped-more, distance-more, listed-more}
 use Rattle.tracer.proofs.ListLaws.{start-listed}
 use Rattle.tracer.proofs.Paths.{by-cases, never, main-below, mains-cons, by-mains, or-right, on-self, on-zero, on-below, on-next, on-main, path-same, path-down, path-up, distance-zero}
-use Rattle.tracer.specs.Journey.{Hands, Way, Arrives, ArrivesWith, askedOf, ListedWith, withCount, put, over, at-start, handed-up, handed-down}
+use Rattle.tracer.specs.Journey.{Hands, Way, Arrives, ArrivesWith, askedOf, ListedWith, withCount, putThere, cameOver, at-start, handed-up, handed-down}
 use Rattle.tracer.specs.Lines.{mainSide, mainSides, crossing, path, distance}
-use Rattle.tracer.specs.Listing.{Query, letsPass, isListed, onArrival, entry}
+use Rattle.tracer.specs.Listing.{Query, crossingPasses, isListed, onArrival, entry}
 
 -- which coupler is the last of the path from s to t: none, one that leads up from a line above s, or t's own
 data LastOf (s t : ℕ) (way : Way) : Type 0 where
-  no-coupler : s ≡ t → way ≡ put → LastOf s t way
-  leads-up : (n : ℕ) → (n ≡ 0 → ⊥) → isAmong n (mainSides s) ≡ true → t ≡ mainSide n → way ≡ over n → LastOf s t way
-  leads-down : (t ≡ 0 → ⊥) → isAmong t (mainSides s) ≡ false → way ≡ over t → LastOf s t way
+  no-coupler : s ≡ t → way ≡ putThere → LastOf s t way
+  leads-up : (n : ℕ) → (n ≡ 0 → ⊥) → isAmong n (mainSides s) ≡ true → t ≡ mainSide n → way ≡ cameOver n → LastOf s t way
+  leads-down : (t ≡ 0 → ⊥) → isAmong t (mainSides s) ≡ false → way ≡ cameOver t → LastOf s t way
 
 none : {A : Type 0} {b : Bool} → b ≡ true → b ≡ false → A
 none e f = never (sym e ∙ f)
 
-put-over : {A : Type 0} (n : ℕ) → put ≡ over n → A
+put-over : {A : Type 0} (n : ℕ) → putThere ≡ cameOver n → A
 put-over n e = let z : _≡_ {A = ℕ} 0 1 = cc in absurd (omega arith)
 
-over-one : (k n : ℕ) → over k ≡ over n → k ≡ n
+over-one : (k n : ℕ) → cameOver k ≡ cameOver n → k ≡ n
 over-one k n e = cc
 
 -- two lines above s with one main side are one
@@ -77,7 +77,7 @@ above-of s t =
 
 -- handed on over another coupler than the last, the telegram goes on away from s
 
-goes-up : (s n : ℕ) (way : Way) → (n ≡ 0 → ⊥) → LastOf s n way → (way ≡ over n → ⊥) → isAmong n (mainSides s) ≡ true
+goes-up : (s n : ℕ) (way : Way) → (n ≡ 0 → ⊥) → LastOf s n way → (way ≡ cameOver n → ⊥) → isAmong n (mainSides s) ≡ true
 goes-up s n way h l d =
     by-cases (isAmong n (mainSides s)) (λ q. q) (λ q. no l q)
   where
@@ -86,23 +86,23 @@ goes-up s n way h l d =
     no (leads-up k hk a e w) q = none (on-main k s a) (subst (λ (x : ℕ). isAmong x (mainSides s) ≡ false) e q)
     no (leads-down hn b w) q = absurd (d w)
 
-goes-down : (s n : ℕ) (way : Way) → (n ≡ 0 → ⊥) → LastOf s (mainSide n) way → (way ≡ over n → ⊥) → isAmong n (mainSides s) ≡ false
+goes-down : (s n : ℕ) (way : Way) → (n ≡ 0 → ⊥) → LastOf s (mainSide n) way → (way ≡ cameOver n → ⊥) → isAmong n (mainSides s) ≡ false
 goes-down s n way h l d =
     by-cases (isAmong n (mainSides s)) (λ q. no l q) (λ q. q)
   where
     no : LastOf s (mainSide n) way → isAmong n (mainSides s) ≡ true → isAmong n (mainSides s) ≡ false
     no (no-coupler e w) q = absurd (omega (arith, on-below n s q, main-below n h))
-    no (leads-up k hk a e w) q = absurd (d (w ∙ ap over (above-one s k n hk h (sym e) a q)))
+    no (leads-up k hk a e w) q = absurd (d (w ∙ ap cameOver (above-one s k n hk h (sym e) a q)))
     no (leads-down hn b w) q = none (on-main n s q) b
 
 -- and a coupler that leads away from s is not the last
 
-not-up : (s n : ℕ) (way : Way) → (n ≡ 0 → ⊥) → LastOf s n way → isAmong n (mainSides s) ≡ true → way ≡ over n → ⊥
+not-up : (s n : ℕ) (way : Way) → (n ≡ 0 → ⊥) → LastOf s n way → isAmong n (mainSides s) ≡ true → way ≡ cameOver n → ⊥
 not-up s n way h (no-coupler e w) q z = put-over n (sym w ∙ z)
 not-up s n way h (leads-up k hk a e w) q z = omega (arith, over-one k n (sym w ∙ z), main-below k hk)
 not-up s n way h (leads-down hn b w) q z = none q b
 
-not-down : (s n : ℕ) (way : Way) → (n ≡ 0 → ⊥) → LastOf s (mainSide n) way → isAmong n (mainSides s) ≡ false → way ≡ over n → ⊥
+not-down : (s n : ℕ) (way : Way) → (n ≡ 0 → ⊥) → LastOf s (mainSide n) way → isAmong n (mainSides s) ≡ false → way ≡ cameOver n → ⊥
 not-down s n way h (no-coupler e w) q z = put-over n (sym w ∙ z)
 not-down s n way h (leads-up k hk a e w) q z = none a (subst (λ (x : ℕ). isAmong x (mainSides s) ≡ false) (sym (over-one k n (sym w ∙ z))) q)
 not-down s n way h (leads-down hn b w) q z = omega (arith, over-one (mainSide n) n (sym w ∙ z), main-below n h)
@@ -113,7 +113,7 @@ last-one s t v w (no-coupler e x) (no-coupler f y) = x ∙ sym y
 last-one s t v w (no-coupler e x) (leads-up k hk a f y) = absurd (omega (arith, on-below k s a, main-below k hk))
 last-one s t v w (no-coupler e x) (leads-down ht b y) = none (on-self s) (subst (λ (u : ℕ). isAmong u (mainSides s) ≡ false) (sym e) b)
 last-one s t v w (leads-up n hn c e x) (no-coupler f y) = absurd (omega (arith, on-below n s c, main-below n hn))
-last-one s t v w (leads-up n hn c e x) (leads-up k hk a f y) = x ∙ ap over (above-one s n k hn hk (sym e ∙ f) c a) ∙ sym y
+last-one s t v w (leads-up n hn c e x) (leads-up k hk a f y) = x ∙ ap cameOver (above-one s n k hn hk (sym e ∙ f) c a) ∙ sym y
 last-one s t v w (leads-up n hn c e x) (leads-down ht b y) = none (on-main n s c) (subst (λ (u : ℕ). isAmong u (mainSides s) ≡ false) e b)
 last-one s t v w (leads-down ht b x) (no-coupler f y) = none (on-self s) (subst (λ (u : ℕ). isAmong u (mainSides s) ≡ false) (sym f) b)
 last-one s t v w (leads-down ht b x) (leads-up k hk a f y) = none (on-main k s a) (subst (λ (u : ℕ). isAmong u (mainSides s) ≡ false) f b)
@@ -148,7 +148,7 @@ module _ (st : Stores) (site : List ℕ) (w : firstOf (siteTests st site) ≡ pa
   onLine t = withCount (onArrival (m .count) (distance start t)) m
 
   abbrev Lists : ℕ → Type 0
-  Lists t = isListed (letsPass st site (askedOf start m)) start (m .count) t ≡ true
+  Lists t = isListed (crossingPasses st site (askedOf start m)) start (m .count) t ≡ true
 
   counted : m .count < 8
   counted = ranges-of m (length p) (v .ranges) .count
@@ -163,8 +163,8 @@ module _ (st : Stores) (site : List ℕ) (w : firstOf (siteTests st site) ≡ pa
         octets = v .octets;
       }
 
-  asked : (side n : ℕ) → letsPass st site (askedOf start m) (crossing side n) ≡ lets st (m .group) (m .destination) (recordsOf site) side n
-  asked side n = ap (λ (b : Bool). lets st b (m .destination) (recordsOf site) side n) (group-asked (m .group))
+  asked : (side n : ℕ) → crossingPasses st site (askedOf start m) (crossing side n) ≡ lineLetsPass st (m .group) (m .destination) (recordsOf site) side n
+  asked side n = ap (λ (b : Bool). lineLetsPass st b (m .destination) (recordsOf site) side n) (group-asked (m .group))
 
   onward-is : (t u n side : ℕ) → path start t ≡ path start u ++ (crossing side n ∷ []) → tp1Octets (forwardedMeaning (onLine u)) p ≡ tp1Octets (onLine t) p
   onward-is t u n side e =
@@ -177,12 +177,12 @@ module _ (st : Stores) (site : List ℕ) (w : firstOf (siteTests st site) ≡ pa
       → Hands st site n side (tp1Octets (onLine u) p) onward → Lists t × (onward ≡ tp1Octets (onLine t) p)
   step-lists t u n side onward h e l x =
       let y = hands-passes st site w (onLine u) p (valid-on u) new n side h onward x in
-      (listed-more (letsPass st site (askedOf start m)) start (m .count) t u (crossing side n) e .1 (l, (asked side n ∙ y .0, y .1 .0)), y .1 .1 ∙ onward-is t u n side e)
+      (listed-more (crossingPasses st site (askedOf start m)) start (m .count) t u (crossing side n) e .1 (l, (asked side n ∙ y .0, y .1 .0)), y .1 .1 ∙ onward-is t u n side e)
 
   lists-step : (t u n side : ℕ) → side < 2 → path start t ≡ path start u ++ (crossing side n ∷ []) → Lists t
       → Lists u × Hands st site n side (tp1Octets (onLine u) p) (tp1Octets (onLine t) p)
   lists-step t u n side h e l =
-      let y = listed-more (letsPass st site (askedOf start m)) start (m .count) t u (crossing side n) e .0 l in
+      let y = listed-more (crossingPasses st site (askedOf start m)) start (m .count) t u (crossing side n) e .0 l in
       let x = passes-hands st site w (onLine u) p (valid-on u) new n side h (sym (asked side n) ∙ y .1 .0) (y .1 .1) in
       (y .0, subst (Hands st site n side (tp1Octets (onLine u) p)) (onward-is t u n side e) x)
 
@@ -199,7 +199,7 @@ module _ (st : Stores) (site : List ℕ) (w : firstOf (siteTests st site) ≡ pa
   octets-start = ap (λ (k : ℕ). tp1Octets (withCount k m) p) (ap (onArrival (m .count)) (distance-same start) ∙ arrival-none (m .count))
 
   arrived : {t : ℕ} {octets : List ℕ} {way : Way} → Arrives st site start (tp1Octets m p) t octets way → Arrived t octets way
-  arrived at-start = record { lists = start-listed (letsPass st site (askedOf start m)) start (m .count); are = sym octets-start; last = no-coupler refl refl }
+  arrived at-start = record { lists = start-listed (crossingPasses st site (askedOf start m)) start (m .count); are = sym octets-start; last = no-coupler refl refl }
   arrived (handed-up {n = n} {octets = o} {onward = o′} {way = y} a d x) =
       let b = arrived a in
       let h : n ≡ 0 → ⊥ = nonzero n 1 o o′ x in
@@ -222,11 +222,11 @@ module _ (st : Stores) (site : List ℕ) (w : firstOf (siteTests st site) ≡ pa
 
   comes-up : (n : ℕ) → (n ≡ 0 → ⊥) → isAmong n (mainSides start) ≡ true → Hands st site n 1 (tp1Octets (onLine n) p) (tp1Octets (onLine (mainSide n)) p) → Comes n
       → Comes (mainSide n)
-  comes-up n h q x c = record { way = over n; arrives = handed-up (c .arrives) (not-up start n (c .way) h (arrived (c .arrives) .last) q) x }
+  comes-up n h q x c = record { way = cameOver n; arrives = handed-up (c .arrives) (not-up start n (c .way) h (arrived (c .arrives) .last) q) x }
 
   comes-down : (n : ℕ) → (n ≡ 0 → ⊥) → isAmong n (mainSides start) ≡ false → Hands st site n 0 (tp1Octets (onLine (mainSide n)) p) (tp1Octets (onLine n) p) → Comes (mainSide n)
       → Comes n
-  comes-down n h q x c = record { way = over n; arrives = handed-down (c .arrives) (not-down start n (c .way) h (arrived (c .arrives) .last) q) x }
+  comes-down n h q x c = record { way = cameOver n; arrives = handed-down (c .arrives) (not-down start n (c .way) h (arrived (c .arrives) .last) q) x }
 
   climbs : (d n : ℕ) → ((u : ℕ) → distance start u ≡ d → Lists u → Comes u) → distance start (mainSide n) ≡ suc d → Lists (mainSide n) → (n ≡ 0 → ⊥)
       → isAmong n (mainSides start) ≡ true → Comes (mainSide n)
@@ -252,7 +252,7 @@ module _ (st : Stores) (site : List ℕ) (w : firstOf (siteTests st site) ≡ pa
   comes-by : (d t : ℕ) → distance start t ≡ d → Lists t → Comes t
   comes-by zero t e l =
       subst Comes (distance-zero start t e)
-      (record { way = put; arrives = subst (λ (o : List ℕ). Arrives st site start (tp1Octets m p) start o put) (sym octets-start) at-start })
+      (record { way = putThere; arrives = subst (λ (o : List ℕ). Arrives st site start (tp1Octets m p) start o putThere) (sym octets-start) at-start })
   comes-by (suc d) t e l = comes-from d t (λ u. comes-by d u) e l
 
   -- a line is listed with a count exactly if the first sending, handed on from line to line by the couplers, arrives there with that count
@@ -288,11 +288,11 @@ module _ (st : Stores) (site : List ℕ) (w : firstOf (siteTests st site) ≡ pa
 
 -- what stands in the list of a line is its number, the count on arrival and the couplers crossed exactly if it is listed with that count
 pub entry-iff : (st : Stores) (site : List ℕ) (q : Query) (t k : ℕ)
-    → entry (letsPass st site q) (q .start) (q .count) t ≡ t ∷ k ∷ distance (q .start) t ∷ [] ↔ ListedWith st site q t k
+    → entry (crossingPasses st site q) (q .start) (q .count) t ≡ t ∷ k ∷ distance (q .start) t ∷ [] ↔ ListedWith st site q t k
 unfolding entry
-entry-iff st site q t k = (go (isListed (letsPass st site q) (q .start) (q .count) t) refl, λ l. rw (l .lists, l .counts) refl)
+entry-iff st site q t k = (go (isListed (crossingPasses st site q) (q .start) (q .count) t) refl, λ l. rw (l .lists, l .counts) refl)
   where
-    go : (b : Bool) → isListed (letsPass st site q) (q .start) (q .count) t ≡ b
+    go : (b : Bool) → isListed (crossingPasses st site q) (q .start) (q .count) t ≡ b
         → cond b (t ∷ onArrival (q .count) (distance (q .start) t) ∷ distance (q .start) t ∷ []) [] ≡ t ∷ k ∷ distance (q .start) t ∷ [] → ListedWith st site q t k
     go true l e = record { lists = l; counts = ap (λ (o : List ℕ). octetAt o 1) e }
     go false l e = absurd (omega (arith, ap length e))

@@ -14,7 +14,7 @@ use Rattle.site.specs.WellFormed.{isAmong}
 use Rattle.tracer.proofs.Paths.{by-cases, path-same, distance-zero}
 use Rattle.tracer.proofs.ReachingLaws.{and-false, lasts-none, count-most}
 use Rattle.tracer.specs.Lines.{Crossing, path, distance}
-use Rattle.tracer.specs.Listing.{Query, letsPass, isListed, onArrival, entry, eachBelow, countBelow, listed, linesListed, isForwardedTo, forwardings}
+use Rattle.tracer.specs.Listing.{Query, crossingPasses, isListed, onArrival, entry, eachBelow, countBelow, listed, linesListed, isForwardedTo, forwardings}
 
 -- the lines of a list, three octets for each
 abbrev pub linesOf : List ℕ → List ℕ
@@ -165,16 +165,16 @@ module _ (f : Crossing → Bool) (s c : ℕ) where
 module _ (st : Stores) (site : List ℕ) (q : Query) where
   pub trace-three-each : length (listed st site q) ≡ linesListed st site q * 3
   unfolding listed linesListed
-  trace-three-each = three-each (letsPass st site q) (q .start) (q .count) 256
+  trace-three-each = three-each (crossingPasses st site q) (q .start) (q .count) 256
 
   pub trace-rises : Rising (linesOf (listed st site q))
   unfolding listed
-  trace-rises = list-rises (letsPass st site q) (q .start) (q .count)
+  trace-rises = list-rises (crossingPasses st site q) (q .start) (q .count)
 
-  pub trace-has : (t : ℕ) → t < 256 → isAmong t (linesOf (listed st site q)) ≡ isListed (letsPass st site q) (q .start) (q .count) t
+  pub trace-has : (t : ℕ) → t < 256 → isAmong t (linesOf (listed st site q)) ≡ isListed (crossingPasses st site q) (q .start) (q .count) t
   unfolding listed
-  trace-has = list-has (letsPass st site q) (q .start) (q .count)
+  trace-has = list-has (crossingPasses st site q) (q .start) (q .count)
 
   pub trace-less-one : q .start < 256 → forwardings st site q ≡ linesListed st site q - 1
   unfolding forwardings linesListed
-  trace-less-one = forwardings-less-one (letsPass st site q) (q .start) (q .count)
+  trace-less-one = forwardings-less-one (crossingPasses st site q) (q .start) (q .count)

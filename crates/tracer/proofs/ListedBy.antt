@@ -16,16 +16,17 @@ use Rattle.frame.specs.Order.{Test, firstOf}
 use Rattle.frame.specs.Refusals.{number}
 use Rattle.frame.specs.declared.Refusal.{Refusal}
 use Rattle.octets.specs.Room.{over}
-use Rattle.site.specs.Letting.{lets, Marks}
+use Rattle.site.specs.Letting.{lineLetsPass, Marks}
 use Rattle.site.specs.Records.{recordsOf}
 use Rattle.site.specs.Stores.{Stores}
 use Rattle.site.specs.WellFormed.{isAmong}
 use Rattle.tracer.proofs.Paths.{by-cases, main-below, by-mains, on-zero, before-on, before-off}
 use Rattle.tracer.proofs.ReachingLaws.{reach-listed, reach-reached}
-use Rattle.tracer.specs.Lines.{mainSides, before, Crossing, up, down, upOver, downOver, path, distance}
-use Rattle.tracer.specs.Listing.{Query, queryOf, letsPass, allPass, isListed, entry, eachBelow, countBelow, listed, linesListed, isForwardedTo, forwardings}
+use Rattle.tracer.specs.Lines.{mainSides, beforeCommon, Crossing, up, down, upOver, downOver, path, distance}
+use Rattle.tracer.specs.Listing.{Query, queryOf, crossingPasses, allPass, isListed, entry, eachBelow, countBelow, listed, linesListed, isForwardedTo, forwardings}
 use Rattle.tracer.specs.Reaching.{reach, marked, Spread, isReached, entryBy}
-use Rattle.tracer.specs.Tracing.{traceTests, DidList, DidTrace}
+use Rattle.tracer.specs.Tracing.{traceTests, DidTrace}
+use Rattle.tracer.specs.Reaching.{DidList}
 use Rattle.tracer.specs.declared.Traced.{Traced}
 use Rattle.coupler.specs.declared.Judged.the-variants.{Fine, Refused as NotFine}
 
@@ -56,18 +57,18 @@ all-append f (x ∷ p) q = by-cases (f x) (λ e. rw e (all-append f p q)) (λ e.
 -- two tests that agree at every coupler of a line below 256
 module _ (f g : Crossing → Bool) (downs : (n : ℕ) → n < 256 → f (down n) ≡ g (down n)) (ups : (n : ℕ) → n < 256 → f (up n) ≡ g (up n)) where
   up-same : (others : List ℕ) → isAmong 0 others ≡ true → (n : ℕ) → n < 256
-      → allPass f (upOver (before (mainSides n) others)) ≡ allPass g (upOver (before (mainSides n) others))
+      → allPass f (upOver (beforeCommon (mainSides n) others)) ≡ allPass g (upOver (beforeCommon (mainSides n) others))
   up-same others z =
-      by-mains (λ n. n < 256 → allPass f (upOver (before (mainSides n) others)) ≡ allPass g (upOver (before (mainSides n) others)))
+      by-mains (λ n. n < 256 → allPass f (upOver (beforeCommon (mainSides n) others)) ≡ allPass g (upOver (beforeCommon (mainSides n) others)))
       (λ l. rw (before-on 0 others z) refl)
       (λ n h ih l. by-cases (isAmong n others)
       (λ e. rw (before-on n others e) refl)
       (λ e. rw (before-off n others h e, ups n l, ih (omega (arith, main-below n h))) refl))
 
   down-same : (others : List ℕ) → isAmong 0 others ≡ true → (n : ℕ) → n < 256
-      → allPass f (downOver (before (mainSides n) others)) ≡ allPass g (downOver (before (mainSides n) others))
+      → allPass f (downOver (beforeCommon (mainSides n) others)) ≡ allPass g (downOver (beforeCommon (mainSides n) others))
   down-same others z =
-      by-mains (λ n. n < 256 → allPass f (downOver (before (mainSides n) others)) ≡ allPass g (downOver (before (mainSides n) others)))
+      by-mains (λ n. n < 256 → allPass f (downOver (beforeCommon (mainSides n) others)) ≡ allPass g (downOver (beforeCommon (mainSides n) others)))
       (λ l. rw (before-on 0 others z) refl)
       (λ n h ih l. by-cases (isAmong n others)
       (λ e. rw (before-on n others e) refl)
@@ -92,10 +93,10 @@ by-three a b = rw (a, b) refl
 
 -- what the tracer's three steps ensure
 module _ (st : Stores) (site : List ℕ) (q : Query) {downward upward : List Bool} (small : q .start < 256)
-    (d : Marks (lets st (eqb (q .kind) 1) (q .destination) (recordsOf site) 0) downward)
-    (u : Marks (lets st (eqb (q .kind) 1) (q .destination) (recordsOf site) 1) upward) where
+    (d : Marks (lineLetsPass st (eqb (q .kind) 1) (q .destination) (recordsOf site) 0) downward)
+    (u : Marks (lineLetsPass st (eqb (q .kind) 1) (q .destination) (recordsOf site) 1) upward) where
   abbrev asked : Crossing → Bool
-  asked = letsPass st site q
+  asked = crossingPasses st site q
 
   downs : (n : ℕ) → n < 256 → marked downward upward (down n) ≡ asked (down n)
   unfolding marked

@@ -9,7 +9,7 @@ use lib.Dec.{eqb}
 use lib.ListN.{length, length-append}
 use borrow.Author.Tests.{eqb-true, eqb-false, eq-eqb, ne-eqb}
 use Rattle.site.specs.WellFormed.{isAmong}
-use Rattle.tracer.specs.Lines.{mainSide, depth, mainSides, before, up, down, upOver, downOver, path, distance}
+use Rattle.tracer.specs.Lines.{mainSide, depth, mainSides, beforeCommon, up, down, upOver, downOver, path, distance}
 use Rattle.tracer.specs.Reaching.{climbing}
 
 pub by-cases : {P : Type 0} (b : Bool) → (b ≡ true → P) → (b ≡ false → P) → P
@@ -137,17 +137,17 @@ on-main m =
 
 -- the part before the first line in common
 
-pub before-on : (n : ℕ) (others : List ℕ) → isAmong n others ≡ true → before (mainSides n) others ≡ []
+pub before-on : (n : ℕ) (others : List ℕ) → isAmong n others ≡ true → beforeCommon (mainSides n) others ≡ []
 before-on n others e =
     by-cases (eqb n 0)
     (λ q. let z : isAmong 0 others ≡ true = rw (eqb-true n 0 q) at e in rw (eqb-true n 0 q, mains-zero, z) refl)
     (λ q. rw (mains-cons n (eqb-false n 0 q), e) refl)
 
-pub before-off : (n : ℕ) (others : List ℕ) → (n ≡ 0 → ⊥) → isAmong n others ≡ false → before (mainSides n) others ≡ n ∷ before (mainSides (mainSide n)) others
+pub before-off : (n : ℕ) (others : List ℕ) → (n ≡ 0 → ⊥) → isAmong n others ≡ false → beforeCommon (mainSides n) others ≡ n ∷ beforeCommon (mainSides (mainSide n)) others
 before-off n others h e = rw (mains-cons n h, e) refl
 
 -- a line that none of them is may be left out
-before-skip : (ns : List ℕ) (t : ℕ) (others : List ℕ) → isAmong t ns ≡ false → before ns (t ∷ others) ≡ before ns others
+before-skip : (ns : List ℕ) (t : ℕ) (others : List ℕ) → isAmong t ns ≡ false → beforeCommon ns (t ∷ others) ≡ beforeCommon ns others
 before-skip [] t others e = refl
 before-skip (n ∷ ns) t others e =
     let x = or-false (eqb n t) (isAmong t ns) e in
@@ -158,17 +158,17 @@ unfolding path
 path-same s = rw (before-on s (mainSides s) (on-self s)) refl
 
 -- up to a line above, no other line of that one's main sides comes first
-before-top : (t s : ℕ) → isAmong t (mainSides s) ≡ true → before (mainSides s) (mainSides t) ≡ before (mainSides s) (t ∷ [])
+before-top : (t s : ℕ) → isAmong t (mainSides s) ≡ true → beforeCommon (mainSides s) (mainSides t) ≡ beforeCommon (mainSides s) (t ∷ [])
 before-top t =
-    by-mains (λ s. isAmong t (mainSides s) ≡ true → before (mainSides s) (mainSides t) ≡ before (mainSides s) (t ∷ []))
+    by-mains (λ s. isAmong t (mainSides s) ≡ true → beforeCommon (mainSides s) (mainSides t) ≡ beforeCommon (mainSides s) (t ∷ []))
     (λ e. top 0 (omega (arith, on-below t 0 e)))
     (λ s h ih e. by-cases (eqb s t) (λ q. top s (eqb-true s t q)) (λ q. climb s h ih (eqb-false s t q) e))
   where
-    top : (s : ℕ) → s ≡ t → before (mainSides s) (mainSides t) ≡ before (mainSides s) (t ∷ [])
+    top : (s : ℕ) → s ≡ t → beforeCommon (mainSides s) (mainSides t) ≡ beforeCommon (mainSides s) (t ∷ [])
     top s z = rw (z, before-on t (mainSides t) (on-self t), before-on t (t ∷ []) (or-true (eqb t t) false (eq-eqb t t refl))) refl
 
-    climb : (s : ℕ) → (s ≡ 0 → ⊥) → (isAmong t (mainSides (mainSide s)) ≡ true → before (mainSides (mainSide s)) (mainSides t) ≡ before (mainSides (mainSide s)) (t ∷ []))
-        → (s ≡ t → ⊥) → isAmong t (mainSides s) ≡ true → before (mainSides s) (mainSides t) ≡ before (mainSides s) (t ∷ [])
+    climb : (s : ℕ) → (s ≡ 0 → ⊥) → (isAmong t (mainSides (mainSide s)) ≡ true → beforeCommon (mainSides (mainSide s)) (mainSides t) ≡ beforeCommon (mainSides (mainSide s)) (t ∷ []))
+        → (s ≡ t → ⊥) → isAmong t (mainSides s) ≡ true → beforeCommon (mainSides s) (mainSides t) ≡ beforeCommon (mainSides s) (t ∷ [])
     climb s h ih d e =
         let u = on-next t s d e .1 in
         let off : isAmong s (mainSides t) ≡ false = by-cases (isAmong s (mainSides t)) (λ q. absurd (omega (arith, on-below s t q, on-below t (mainSide s) u, main-below s h))) (λ q. q) in
@@ -188,7 +188,7 @@ unfolding path
 path-down s t e =
     let h : t ≡ 0 → ⊥ = λ z. never (sym (on-zero s) ∙ rw z at e) in
     rw (before-off t (mainSides s) h e, mains-cons t h, before-skip (mainSides s) t (mainSides (mainSide t)) e)
-    (sym (append-assoc (upOver (before (mainSides s) (mainSides (mainSide t)))) (downOver (before (mainSides (mainSide t)) (mainSides s))) (down t ∷ [])))
+    (sym (append-assoc (upOver (beforeCommon (mainSides s) (mainSides (mainSide t)))) (downOver (beforeCommon (mainSides (mainSide t)) (mainSides s))) (down t ∷ [])))
 
 climb-more : (n s : ℕ) → (n ≡ 0 → ⊥) → isAmong n (mainSides s) ≡ true → climbing s (mainSide n) ≡ climbing s n ++ (up n ∷ [])
 climb-more n s k =
@@ -197,7 +197,7 @@ climb-more n s k =
     (λ s h ih e. by-cases (eqb s n) (λ q. rw (eqb-true s n q) last) (λ q. more s h ih (eqb-false s n q) e))
     s
   where
-    alone : (m : ℕ) → before (mainSides m) (m ∷ []) ≡ []
+    alone : (m : ℕ) → beforeCommon (mainSides m) (m ∷ []) ≡ []
     alone m = before-on m (m ∷ []) (or-true (eqb m m) false (eq-eqb m m refl))
 
     apart : (m s : ℕ) → (m ≡ s → ⊥) → (s ≡ 0 → ⊥) → climbing s m ≡ up s ∷ climbing (mainSide s) m
@@ -218,9 +218,9 @@ path-up s n e h = rw (path-climb s n e, path-climb s (mainSide n) (on-main n s e
 
 -- each half has at most as many couplers as its line lies deep
 
-before-depth : (others : List ℕ) → isAmong 0 others ≡ true → (n : ℕ) → length (before (mainSides n) others) ≤ depth n
+before-depth : (others : List ℕ) → isAmong 0 others ≡ true → (n : ℕ) → length (beforeCommon (mainSides n) others) ≤ depth n
 before-depth others z =
-    by-mains (λ n. length (before (mainSides n) others) ≤ depth n)
+    by-mains (λ n. length (beforeCommon (mainSides n) others) ≤ depth n)
     (rw (before-on 0 others z) (omega arith))
     (λ n h ih. by-cases (isAmong n others) (λ q. rw (before-on n others q) (omega arith)) (λ q. rw (before-off n others h q) (omega (arith, ih, depth-main n h))))
 
@@ -232,16 +232,16 @@ length-down : (ns : List ℕ) → length (downOver ns) ≡ length ns
 length-down [] = refl
 length-down (n ∷ ns) = rw (length-append (downOver ns) (down n ∷ []), length-down ns) (omega arith)
 
-pub distance-halves : (s t : ℕ) → distance s t ≡ length (before (mainSides s) (mainSides t)) + length (before (mainSides t) (mainSides s))
+pub distance-halves : (s t : ℕ) → distance s t ≡ length (beforeCommon (mainSides s) (mainSides t)) + length (beforeCommon (mainSides t) (mainSides s))
 unfolding distance path
 distance-halves s t =
-    rw (length-append (upOver (before (mainSides s) (mainSides t))) (downOver (before (mainSides t) (mainSides s))), length-up (before (mainSides s) (mainSides t)), length-down (before (mainSides t) (mainSides s))) refl
+    rw (length-append (upOver (beforeCommon (mainSides s) (mainSides t))) (downOver (beforeCommon (mainSides t) (mainSides s))), length-up (beforeCommon (mainSides s) (mainSides t)), length-down (beforeCommon (mainSides t) (mainSides s))) refl
 
 pub distance-four : (s t : ℕ) → distance s t ≤ 4
 distance-four s t =
     omega (arith, distance-halves s t, before-depth (mainSides t) (on-zero t) s, before-depth (mainSides s) (on-zero s) t, depth-two s, depth-two t)
 
-none-before : (n : ℕ) (others : List ℕ) → isAmong 0 others ≡ true → length (before (mainSides n) others) ≡ 0 → isAmong n others ≡ true
+none-before : (n : ℕ) (others : List ℕ) → isAmong 0 others ≡ true → length (beforeCommon (mainSides n) others) ≡ 0 → isAmong n others ≡ true
 none-before n others z e =
     by-cases (isAmong n others) (λ q. q)
     (λ q.

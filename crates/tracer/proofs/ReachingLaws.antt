@@ -13,7 +13,7 @@ use lib.Seq.{getD-set-same, getD-set-other}
 use borrow.Author.Tests.{leb-false, eqb-true, eqb-false, lt-ltb, le-leb, lt-leb, eq-eqb, ne-eqb}
 use Rattle.site.specs.WellFormed.{isAmong}
 use Rattle.tracer.proofs.Paths.{by-cases, never, main-below, depth-main, mains-zero, mains-cons, on-self, on-zero, on-next, before-on, before-off, path-climb, path-down, distance-four}
-use Rattle.tracer.specs.Lines.{mainSide, depth, mainSides, before, Crossing, upOver, path, distance}
+use Rattle.tracer.specs.Lines.{mainSide, depth, mainSides, beforeCommon, Crossing, upOver, path, distance}
 use Rattle.tracer.specs.Listing.{allPass, lasts, isListed, countBelow, isForwardedTo}
 use Rattle.tracer.specs.Reaching.{handed, along, reach, marked, climbing, reachBy, Spread}
 
@@ -94,7 +94,7 @@ climb-marked d u c l (n ∷ ns) = climb-marked d u c (handed c l (getD u n false
 pub reach-climbed : (d u : List Bool) (lines : List ℕ) (s c t : ℕ) {r : ℕ} → isAmong t (mainSides s) ≡ true → r ≡ along (marked u u) c 1 (climbing s t)
     → r ≡ reachBy d u lines s c t
 unfolding reachBy
-reach-climbed d u lines s c t e q = rw e (q ∙ climb-marked d u c 1 (before (mainSides s) (t ∷ [])))
+reach-climbed d u lines s c t e q = rw e (q ∙ climb-marked d u c 1 (beforeCommon (mainSides s) (t ∷ [])))
 
 -- main sides known, a line is known
 pub reach-by : (d u : List Bool) (lines : List ℕ) (s c t : ℕ) → ((n : ℕ) → n < t → getD lines n 0 ≡ reach (marked d u) s c n)

@@ -17,7 +17,7 @@ use Rattle.site.specs.Records.{recordsOf}
 use Rattle.site.specs.Stores.{Stores}
 use Rattle.site.specs.WellFormed.{isAmong}
 use Rattle.tracer.proofs.Paths.{on-zero, before-on, before-off}
-use Rattle.tracer.specs.Lines.{mainSide, mainSides, before, Crossing, up, down, upOver, downOver, path}
+use Rattle.tracer.specs.Lines.{mainSide, mainSides, beforeCommon, Crossing, up, down, upOver, downOver, path}
 use Rattle.tracer.specs.Listing.{queryOf}
 use Rattle.tracer.specs.Tracing.{traceTests}
 use Rattle.tracer.specs.Why.{handedOn, walked, whyBy, whyOf, whyTests, answerWhy}
@@ -50,26 +50,26 @@ module _ (st : Stores) (site : List ℕ) (group : Bool) (destination : ℕ) wher
   walked-append w (x ∷ xs) ys = walked-append (handedOn st site group destination w x) xs ys
 
   -- up to the first line in common, and down from it: a line that the other's main sides have too ends the way, any other is one coupler
-  pub up-joined : (w : Walk) (from to : ℕ) {b : Bool} → b ≡ isAmong from (mainSides to) → b ≡ true → w ≡ walked st site group destination w (upOver (before (mainSides from) (mainSides to)))
+  pub up-joined : (w : Walk) (from to : ℕ) {b : Bool} → b ≡ isAmong from (mainSides to) → b ≡ true → w ≡ walked st site group destination w (upOver (beforeCommon (mainSides from) (mainSides to)))
   up-joined w from to e t = rw (before-on from (mainSides to) (sym e ∙ t)) refl
 
   pub up-more : (w : Walk) {next r : Walk} {main : ℕ} (from to : ℕ) {b : Bool} → b ≡ isAmong from (mainSides to) → b ≡ false → next ≡ handedOn st site group destination w (up from) → main ≡ mainSide from
-      → r ≡ walked st site group destination next (upOver (before (mainSides main) (mainSides to))) → r ≡ walked st site group destination w (upOver (before (mainSides from) (mainSides to)))
+      → r ≡ walked st site group destination next (upOver (beforeCommon (mainSides main) (mainSides to))) → r ≡ walked st site group destination w (upOver (beforeCommon (mainSides from) (mainSides to)))
   up-more w {main = main} from to e f n m r =
       r
-      ∙ ap (λ (v : Walk). walked st site group destination v (upOver (before (mainSides main) (mainSides to)))) n
-      ∙ ap (λ (k : ℕ). walked st site group destination (handedOn st site group destination w (up from)) (upOver (before (mainSides k) (mainSides to)))) m
+      ∙ ap (λ (v : Walk). walked st site group destination v (upOver (beforeCommon (mainSides main) (mainSides to)))) n
+      ∙ ap (λ (k : ℕ). walked st site group destination (handedOn st site group destination w (up from)) (upOver (beforeCommon (mainSides k) (mainSides to)))) m
       ∙ ap (λ (l : List ℕ). walked st site group destination w (upOver l)) (sym (before-off from (mainSides to) (not-zero from to (sym e ∙ f)) (sym e ∙ f)))
 
-  pub down-joined : (w : Walk) (from to : ℕ) {b : Bool} → b ≡ isAmong to (mainSides from) → b ≡ true → w ≡ walked st site group destination w (downOver (before (mainSides to) (mainSides from)))
+  pub down-joined : (w : Walk) (from to : ℕ) {b : Bool} → b ≡ isAmong to (mainSides from) → b ≡ true → w ≡ walked st site group destination w (downOver (beforeCommon (mainSides to) (mainSides from)))
   down-joined w from to e t = rw (before-on to (mainSides from) (sym e ∙ t)) refl
 
   pub down-more : (w : Walk) {there r : Walk} {main : ℕ} (from to : ℕ) {b : Bool} → b ≡ isAmong to (mainSides from) → b ≡ false → main ≡ mainSide to
-      → there ≡ walked st site group destination w (downOver (before (mainSides main) (mainSides from))) → r ≡ handedOn st site group destination there (down to)
-      → r ≡ walked st site group destination w (downOver (before (mainSides to) (mainSides from)))
+      → there ≡ walked st site group destination w (downOver (beforeCommon (mainSides main) (mainSides from))) → r ≡ handedOn st site group destination there (down to)
+      → r ≡ walked st site group destination w (downOver (beforeCommon (mainSides to) (mainSides from)))
   down-more w {main = main} from to e f m t r =
       rw (before-off to (mainSides from) (not-zero to from (sym e ∙ f)) (sym e ∙ f), ← m)
-      (r ∙ rw t (sym (walked-append w (downOver (before (mainSides main) (mainSides from))) (down to ∷ []))))
+      (r ∙ rw t (sym (walked-append w (downOver (beforeCommon (mainSides main) (mainSides from))) (down to ∷ []))))
 
 -- the whole explanation: refused as the trace is, or the walk over the path
 module _ (st : Stores) (site : List ℕ) (start kind destination count line : ℕ) {judged : Judged}
@@ -79,13 +79,13 @@ module _ (st : Stores) (site : List ℕ) (start kind destination count line : �
   why-refused r e = rw (judged-refused (firstOf (whyTests st site (queryOf start kind destination count))) r (sym e ∙ j)) refl
 
   module _ (f : judged ≡ Fine) {joined walk : Walk}
-      (u : joined ≡ walked st site (eqb kind 1) destination (Going count) (upOver (before (mainSides start) (mainSides line))))
-      (d : walk ≡ walked st site (eqb kind 1) destination joined (downOver (before (mainSides line) (mainSides start)))) where
+      (u : joined ≡ walked st site (eqb kind 1) destination (Going count) (upOver (beforeCommon (mainSides start) (mainSides line))))
+      (d : walk ≡ walked st site (eqb kind 1) destination joined (downOver (beforeCommon (mainSides line) (mainSides start)))) where
     explained : answerWhy st site (queryOf start kind destination count) line ≡ whyBy walk
     unfolding answerWhy whyOf path
     explained =
-        let way = upOver (before (mainSides start) (mainSides line)) in
-        let back = downOver (before (mainSides line) (mainSides start)) in
+        let way = upOver (beforeCommon (mainSides start) (mainSides line)) in
+        let back = downOver (beforeCommon (mainSides line) (mainSides start)) in
         let whole : walked st site (eqb kind 1) destination (Going count) (way ++ back) ≡ walk =
         walked-append st site (eqb kind 1) destination (Going count) way back
         ∙ ap (λ (w : Walk). walked st site (eqb kind 1) destination w back) (sym u) ∙ sym d in

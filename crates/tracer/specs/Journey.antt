@@ -13,7 +13,7 @@ use Rattle.site.specs.Stores.{Stores, tableOf}
 use Rattle.tp1.specs.Reading.{readTp1}
 use Rattle.tp1.specs.declared.Tp1Answer.the-variants.{Frame}
 use Rattle.tracer.specs.Lines.{mainSide, distance}
-use Rattle.tracer.specs.Listing.{Query, queryOf, letsPass, isListed, onArrival}
+use Rattle.tracer.specs.Listing.{Query, queryOf, crossingPasses, isListed, onArrival}
 
 -- a coupler as its record in the site sets it, with a frame received from a side (0 main, 1 sub)
 abbrev pub settingBy : Stores → List ℕ → ℕ → Setting
@@ -31,18 +31,18 @@ pub record Hands (st : Stores) (site : List ℕ) (line side : ℕ) (octets onwar
 
 -- how octets came onto a line: put there, or over the coupler of a line
 pub data Way : Type 0 where
-  put : Way
-  over : ℕ → Way
+  putThere : Way
+  cameOver : ℕ → Way
 
 -- these octets come onto this line in this way, the first ones having been put on the starting line
 pub data Arrives (st : Stores) (site : List ℕ) (start : ℕ) (first : List ℕ) : ℕ → List ℕ → Way → Type 0 where
-  at-start : Arrives st site start first start first put
+  at-start : Arrives st site start first start first putThere
   -- the coupler of line n has n on its sub side ..
-  handed-up : {n : ℕ} {octets onward : List ℕ} {way : Way} → Arrives st site start first n octets way → (way ≡ over n → ⊥) → Hands st site n 1 octets onward
-      → Arrives st site start first (mainSide n) onward (over n)
+  handed-up : {n : ℕ} {octets onward : List ℕ} {way : Way} → Arrives st site start first n octets way → (way ≡ cameOver n → ⊥) → Hands st site n 1 octets onward
+      → Arrives st site start first (mainSide n) onward (cameOver n)
   -- .. and the main side of n on its main side
-  handed-down : {n : ℕ} {octets onward : List ℕ} {way : Way} → Arrives st site start first (mainSide n) octets way → (way ≡ over n → ⊥) → Hands st site n 0 octets onward
-      → Arrives st site start first n onward (over n)
+  handed-down : {n : ℕ} {octets onward : List ℕ} {way : Way} → Arrives st site start first (mainSide n) octets way → (way ≡ cameOver n → ⊥) → Hands st site n 0 octets onward
+      → Arrives st site start first n onward (cameOver n)
 
 -- a frame with this count arrives on a line
 pub record ArrivesWith (st : Stores) (site : List ℕ) (start : ℕ) (first : List ℕ) (line count : ℕ) : Type 0 where
@@ -59,7 +59,7 @@ askedOf start m = queryOf start (cond (m .group) 1 0) (m .destination) (m .count
 
 -- the tracer lists a line with this count on arrival
 pub record ListedWith (st : Stores) (site : List ℕ) (q : Query) (line count : ℕ) : Type 0 where
-  pub lists : isListed (letsPass st site q) (q .start) (q .count) line ≡ true
+  pub lists : isListed (crossingPasses st site q) (q .start) (q .count) line ≡ true
   pub counts : onArrival (q .count) (distance (q .start) line) ≡ count
 
 -- the same telegram with another count

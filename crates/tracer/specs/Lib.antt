@@ -4,3 +4,4 @@ pub mod Tracing
 pub mod Reaching
 pub mod Why
 pub mod Journey
+pub mod Answers

@@ -24,9 +24,9 @@ unfoldable pub mainSides : ℕ → List ℕ
 mainSides n = mainSidesBy (depth n) n
 
 -- "joined at the first line in common": the lines before it
-abbrev pub before : List ℕ → List ℕ → List ℕ
-before [] others = []
-before (n ∷ ns) others = cond (isAmong n others) [] (n ∷ before ns others)
+abbrev pub beforeCommon : List ℕ → List ℕ → List ℕ
+beforeCommon [] others = []
+beforeCommon (n ∷ ns) others = cond (isAmong n others) [] (n ∷ beforeCommon ns others)
 
 -- a coupler crossed: its line, and the direction of travel (0 main to sub, 1 sub to main)
 pub record Crossing : Type 0 where
@@ -52,7 +52,7 @@ downOver [] = []
 downOver (n ∷ ns) = downOver ns ++ (down n ∷ [])
 
 unfoldable pub path : ℕ → ℕ → List Crossing
-path start line = upOver (before (mainSides start) (mainSides line)) ++ downOver (before (mainSides line) (mainSides start))
+path start line = upOver (beforeCommon (mainSides start) (mainSides line)) ++ downOver (beforeCommon (mainSides line) (mainSides start))
 
 unfoldable pub distance : ℕ → ℕ → ℕ
 distance start line = length (path start line)

@@ -4,7 +4,7 @@ use Prim.Native.Nat.{ℕ, zero, suc, _+_, _-_}
 use mathlib.Core.Bool.{Bool, true, cond, _&&_, _||_}
 use mathlib.Core.List.{List, [], _∷_, _++_}
 use lib.Dec.{ltb, leb, eqb}
-use Rattle.site.specs.Letting.{lets}
+use Rattle.site.specs.Letting.{lineLetsPass}
 use Rattle.site.specs.Records.{recordsOf}
 use Rattle.site.specs.Stores.{Stores}
 use Rattle.tracer.specs.Lines.{Crossing, path, distance}
@@ -20,8 +20,8 @@ abbrev pub queryOf : ℕ → ℕ → ℕ → ℕ → Query
 queryOf start kind destination count = record { start = start; kind = kind; destination = destination; count = count }
 
 -- whether a site's coupler is fitted and lets the telegram pass in this direction of travel
-abbrev pub letsPass : Stores → List ℕ → Query → Crossing → Bool
-letsPass st site q x = lets st (eqb (q .kind) 1) (q .destination) (recordsOf site) (x .direction) (x .line)
+abbrev pub crossingPasses : Stores → List ℕ → Query → Crossing → Bool
+crossingPasses st site q x = lineLetsPass st (eqb (q .kind) 1) (q .destination) (recordsOf site) (x .direction) (x .line)
 
 abbrev pub allPass : (Crossing → Bool) → List Crossing → Bool
 allPass f [] = true
@@ -54,14 +54,14 @@ countBelow f (suc n) = countBelow f n + cond (f n) 1 0
 
 -- "All 256 lines exist"
 unfoldable pub listed : Stores → List ℕ → Query → List ℕ
-listed st site q = eachBelow (entry (letsPass st site q) (q .start) (q .count)) 256
+listed st site q = eachBelow (entry (crossingPasses st site q) (q .start) (q .count)) 256
 
 unfoldable pub linesListed : Stores → List ℕ → Query → ℕ
-linesListed st site q = countBelow (isListed (letsPass st site q) (q .start) (q .count)) 256
+linesListed st site q = countBelow (isListed (crossingPasses st site q) (q .start) (q .count)) 256
 
 -- "the number of forwardings made on the site": each puts the telegram on one line, over the last coupler of the path there
 unfoldable pub isForwardedTo : (Crossing → Bool) → ℕ → ℕ → ℕ → Bool
 isForwardedTo f start count line = isListed f start count line && ltb 0 (distance start line)
 
 unfoldable pub forwardings : Stores → List ℕ → Query → ℕ
-forwardings st site q = countBelow (isForwardedTo (letsPass st site q) (q .start) (q .count)) 256
+forwardings st site q = countBelow (isForwardedTo (crossingPasses st site q) (q .start) (q .count)) 256

@@ -6,9 +6,14 @@ use mathlib.Core.List.{List, [], _∷_}
 use mathlib.Core.Path.{_≡_}
 use lib.Dec.{ltb, eqb}
 use lib.ListN.{length, getD}
+use Rattle.frame.specs.Order.{pass}
+use Rattle.octets.specs.Room.{over}
+use Rattle.site.specs.Stores.{Stores}
 use Rattle.site.specs.WellFormed.{isAmong}
-use Rattle.tracer.specs.Lines.{mainSide, mainSides, before, Crossing, upOver, path}
-use Rattle.tracer.specs.Listing.{lasts, onArrival, countBelow, isForwardedTo}
+use Rattle.tracer.specs.Lines.{mainSide, mainSides, beforeCommon, Crossing, upOver, path}
+use Rattle.tracer.specs.declared.Traced.{Traced}
+use Rattle.tracer.specs.Tracing.{tracedBy, listBy}
+use Rattle.tracer.specs.Listing.{Query, lasts, onArrival, countBelow, isForwardedTo}
 
 -- one coupler hands it on if it lets it pass and the count lasts
 unfoldable pub handed : ℕ → ℕ → Bool → ℕ
@@ -28,7 +33,7 @@ marked downward upward x = getD (cond (eqb (x .direction) 0) downward upward) (x
 
 -- the way up to a line that lies between the starting line and 00h
 abbrev pub climbing : ℕ → ℕ → List Crossing
-climbing start top = upOver (before (mainSides start) (top ∷ []))
+climbing start top = upOver (beforeCommon (mainSides start) (top ∷ []))
 
 -- a line is reached up that way, or down over its own coupler from its main side
 unfoldable pub reachBy : List Bool → List Bool → List ℕ → ℕ → ℕ → ℕ → ℕ
@@ -50,3 +55,8 @@ isReached lines line = ltb 0 (getD lines line 0)
 unfoldable pub entryBy : ℕ → List ℕ → ℕ → List ℕ
 entryBy count lines line =
     cond (isReached lines line) (line ∷ onArrival count (getD lines line 0 - 1) ∷ (getD lines line 0 - 1) ∷ []) []
+
+-- nothing refused: the list at the front of the room, "octets behind the list stay"
+pub record DidList (st : Stores) (site : List ℕ) (q : Query) (room : List ℕ) (answer : Traced) (room′ : List ℕ) : Type 0 where
+  pub answered : answer ≡ tracedBy st site q pass
+  pub left : room′ ≡ over (listBy st site q pass) room

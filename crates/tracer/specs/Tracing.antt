@@ -33,11 +33,6 @@ abbrev pub listBy : Stores → List ℕ → Query → Verdict → List ℕ
 listBy st site q pass = listed st site q
 listBy st site q (refuse r) = []
 
--- nothing refused: the list at the front of the room, "octets behind the list stay"
-pub record DidList (st : Stores) (site : List ℕ) (q : Query) (room : List ℕ) (answer : Traced) (room′ : List ℕ) : Type 0 where
-  pub answered : answer ≡ tracedBy st site q pass
-  pub left : room′ ≡ over (listBy st site q pass) room
-
 -- "Lent octets behind the list stay."
 pub record DidTrace (st : Stores) (site : List ℕ) (q : Query) (room : List ℕ) (answer : Traced) (room′ : List ℕ) : Type 0 where
   pub answered : answer ≡ tracedBy st site q (firstOf (traceTests st site q (length room)))

@@ -2,7 +2,7 @@
 ghost use mathlib.Core.Path.{_≡_};
 ghost use Rattle.coupler.specs.Passing.{doesPass};
 ghost use Rattle.site.specs.Stores.{stores};
-ghost use Rattle.tracer.specs.Lines.{mainSides, before, upOver, downOver, crossing};
+ghost use Rattle.tracer.specs.Lines.{mainSides, beforeCommon, upOver, downOver, crossing};
 ghost use Rattle.tracer.specs.Why.{handedOn, walked};
 use crate::Stop;
 use crate::Walk;
@@ -71,7 +71,7 @@ pub(crate) fn walk_up<'a>(
     from: u8,
     to: u8,
 ) -> Walk
-    ensures { λ r. ⌜ r ≡ walked (stores (now (project .entry)) (now (own .entry))) (now (site .entry)) group destination walk (upOver (before (mainSides from) (mainSides to))) ⌝ }
+    ensures { λ r. ⌜ r ≡ walked (stores (now (project .entry)) (now (own .entry))) (now (site .entry)) group destination walk (upOver (beforeCommon (mainSides from) (mainSides to))) ⌝ }
 {
     if crate::lines::is_above(from, to) {
         return walk;
@@ -100,7 +100,7 @@ pub(crate) fn walk_down<'a>(
     from: u8,
     to: u8,
 ) -> Walk
-    ensures { λ r. ⌜ r ≡ walked (stores (now (project .entry)) (now (own .entry))) (now (site .entry)) group destination walk (downOver (before (mainSides to) (mainSides from))) ⌝ }
+    ensures { λ r. ⌜ r ≡ walked (stores (now (project .entry)) (now (own .entry))) (now (site .entry)) group destination walk (downOver (beforeCommon (mainSides to) (mainSides from))) ⌝ }
 {
     if crate::lines::is_above(to, from) {
         return walk;

@@ -6,14 +6,14 @@ use lib.ListN.{length}
 use borrow.Author.Needs.{needs}
 use Rattle.site.proofs.LettingLaws.{Letting, letting-none, letting-more, letting-all, lets-whole}
 use Rattle.site.proofs.RecordLaws.{record-whole}
-use Rattle.site.specs.Letting.{letsBy}
+use Rattle.site.specs.Letting.{letsPass}
 use Rattle.site.specs.Stores.{stores}
 use Rattle.site.proofs.letting.Statement.{statement}
 use Rattle.site.proofs.letting.Tie as tie
 
 abbrev Inv-loop : tie.InvT-loop
 Inv-loop site project own direction group destination class marks₀ from₀ marks from =
-    Letting (letsBy (stores project own) group destination direction) site marks from
+    Letting (letsPass (stores project own) group destination direction) site marks from
 
 abbrev μ-loop : tie.MeasureT-loop
 μ-loop site project own direction group destination class marks₀ from₀ marks from =

@@ -2,22 +2,23 @@
 use mathlib.Core.Path.{sym, _∙_}
 use borrow.Author.Needs.{needs}
 use borrow.Author.Tests.{eq-eqb, ne-eqb}
-use Rattle.tp1.specs.Reading.{readFrom}
+use Rattle.tp1.specs.Reading.{readTp1}
+use Rattle.tp1.specs.Stages.{readFrom}
 use Rattle.tp1.proofs.read.Statement.{statement}
 use Rattle.tp1.proofs.read.Tie as tie
 
 returns : tie.Need-returns
-unfolding readFrom
+unfolding readTp1 readFrom
 returns c =
     rw (eq-eqb _ _ (c .if1 .taken))
 
 returns-2 : tie.Need-returns-2
-unfolding readFrom
+unfolding readTp1 readFrom
 returns-2 c =
     rw (ne-eqb _ _ (c .before .before .before .before .if1 .left), sym (c .before .before .is-control .ensures) ∙ c .before .if2 .taken) (c .read-head .ensures)
 
 returns-3 : tie.Need-returns-3
-unfolding readFrom
+unfolding readTp1 readFrom
 returns-3 c =
     rw (ne-eqb _ _ (c .before .before .before .if1 .left), sym (c .before .is-control .ensures) ∙ c .if2 .left)
 

@@ -8,7 +8,7 @@ use Rattle.coupler.proofs.passing.is_ruled.Tie as tie
 returns : tie.Need-returns
 unfolding isRuled
 returns c =
-    rw (c .before .if1 .taken, c .is-listed .ensures)
+    rw (c .before .if1 .taken, c .is-in-table .ensures)
 
 returns-2 : tie.Need-returns-2
 unfolding isRuled

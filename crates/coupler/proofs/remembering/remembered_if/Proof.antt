@@ -1,6 +1,6 @@
 -- Each arm settles whether the frame was accepted.
 use borrow.Author.Needs.{needs}
-use Rattle.coupler.specs.Memory.{rememberedIf}
+use Rattle.coupler.specs.Stages.{rememberedIf}
 use Rattle.coupler.proofs.remembering.remembered_if.Statement.{statement}
 use Rattle.coupler.proofs.remembering.remembered_if.Tie as tie
 

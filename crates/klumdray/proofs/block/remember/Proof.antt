@@ -1,6 +1,6 @@
 -- Size and frame laid one behind the other, as the definition has it.
 use borrow.Author.Needs.{needs}
-use Rattle.klumdray.specs.Block.{rememberedAt}
+use Rattle.klumdray.specs.Stages.{rememberedAt}
 use Rattle.klumdray.proofs.block.remember.Statement.{statement}
 use Rattle.klumdray.proofs.block.remember.Tie as tie
 

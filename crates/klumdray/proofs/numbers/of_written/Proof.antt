@@ -3,7 +3,7 @@ use mathlib.Core.Path.{subst}
 use native.Mathlib.Omega.{arith}
 use borrow.Author.Needs.{needs}
 use Rattle.frame.specs.declared.Written.the-variants.{Put}
-use Rattle.klumdray.specs.Numbers.{Sized}
+use Rattle.klumdray.specs.Stages.{Sized}
 use Rattle.klumdray.proofs.numbers.of_written.Statement.{statement}
 use Rattle.klumdray.proofs.numbers.of_written.Tie as tie
 

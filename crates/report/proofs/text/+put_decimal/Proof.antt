@@ -5,7 +5,8 @@ use mathlib.Core.Path.{_∙_, subst}
 use native.Mathlib.Omega.{arith}
 use Rattle.report.proofs.Decimal.{decimal-one, puts-one, fits-more, puts-more}
 use Rattle.report.proofs.Puts.{fits-first, fits-then}
-use Rattle.report.specs.Text.{digit, decimal, Fits}
+use Rattle.report.specs.Text.{digit, decimal}
+use Rattle.report.specs.Stages.{Fits}
 use borrow.Fn.Kinds.{In}
 use borrow.Fn.PlainCycle.{Measures, is, falls, and}
 use Rattle.report.proofs.text.put_decimal.Reads as put-decimal

@@ -6,7 +6,7 @@ use native.Mathlib.Omega.{arith}
 use lib.ListN.{length}
 use borrow.Author.Needs.{needs}
 use borrow.Author.Tests.{le-leb, lt-leb}
-use Rattle.site.specs.Records.{recordAt}
+use Rattle.site.specs.Stages.{recordAt}
 use Rattle.site.proofs.records.record_at.Statement.{statement}
 use Rattle.site.proofs.records.record_at.Tie as tie
 

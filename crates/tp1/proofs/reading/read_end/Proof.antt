@@ -4,7 +4,7 @@ use native.Mathlib.Omega.{arith}
 use borrow.Author.Needs.{needs}
 use borrow.Author.Tests.{lt-ltb, le-ltb}
 use Rattle.tp1.proofs.Size.{size-least}
-use Rattle.tp1.specs.Reading.{readFrom}
+use Rattle.tp1.specs.Stages.{readFrom}
 use Rattle.tp1.proofs.reading.read_end.Statement.{statement}
 use Rattle.tp1.proofs.reading.read_end.Tie as tie
 

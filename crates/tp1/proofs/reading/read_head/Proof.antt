@@ -6,7 +6,8 @@ use mathlib.Core.Path.{_≡_, sym, _∙_}
 use borrow.Author.Needs.{needs}
 use borrow.Author.Tests.{lt-ltb, le-ltb}
 use Rattle.tp1.specs.Layout.{headOf}
-use Rattle.tp1.specs.Reading.{isExtended, headSize, readFrom}
+use Rattle.tp1.specs.Reading.{isExtended, headSize}
+use Rattle.tp1.specs.Stages.{readFrom}
 use Rattle.tp1.proofs.reading.read_head.Statement.{statement}
 use Rattle.tp1.proofs.reading.read_head.Tie as tie
 

@@ -1,16 +1,16 @@
 -- The octet of the table, as `octet` hands it out; a shift is a division.
 use borrow.Author.Needs.{needs}
-use Rattle.coupler.specs.Passing.{isListed}
-use Rattle.coupler.proofs.passing.is_listed.Statement.{statement}
-use Rattle.coupler.proofs.passing.is_listed.Tie as tie
+use Rattle.coupler.specs.Passing.{isInTable}
+use Rattle.coupler.proofs.passing.is_in_table.Statement.{statement}
+use Rattle.coupler.proofs.passing.is_in_table.Tie as tie
 
 returns : tie.Need-returns
-unfolding isListed
+unfolding isInTable
 returns c =
     rw (c .octet .ensures)
 
-pub is-listed-spec : {M : Type 1} → statement M
-is-listed-spec =
+pub is-in-table-spec : {M : Type 1} → statement M
+is-in-table-spec =
     tie.close
     (tie.spec
     (λ c. search needs)

@@ -1,0 +1,10 @@
+-- A site's records one by one: for the contracts of private functions. No public contract rests on these definitions.
+use Prim.Native.Nat.{ℕ, _+_}
+use mathlib.Core.Bool.{cond}
+use mathlib.Core.List.{List, []}
+use lib.Dec.{leb}
+use lib.ListN.{length, take, drop}
+
+-- the record that starts at an index: no octets where the site does not have it whole
+unfoldable pub recordAt : List ℕ → ℕ → List ℕ
+recordAt site from = cond (leb (from + 12) (length site)) (take 12 (drop from site)) []
