@@ -3,14 +3,27 @@
 use crate::refusal::{RANGE, ROOM, SETTING, TABLE};
 use crate::{routing, tp1, Meaning};
 
-/// A bit for each group address.
+/// A bit for each group address: "the 8,192-octet filter table".
 pub const TABLE_SIZE: usize = 8192;
 /// "13 (room below 272)"
 pub const ROOM_SIZE: usize = 272;
-/// The largest TP1 frame is an extended one with LG 254.
+/// The largest TP1 frame is an extended one with LG 254: 9 + 254 octets.
 pub const LARGEST_FRAME: usize = 263;
 
-/// The side that a frame is received from.
+/// The places in a row of codes: "individual 0, 1, 2; broadcast 0, 2; groups 0001h to 6FFFh 0, 1,
+/// 2; groups 7000h to FFFFh 0, 1, 2".
+const INDIVIDUAL: usize = 0;
+const BROADCAST: usize = 1;
+const LOWER_GROUPS: usize = 2;
+const UPPER_GROUPS: usize = 3;
+
+/// "Code 0 is closed, 2 open."
+const CLOSED: u8 = 0;
+/// Code 1: the filter table decides about groups, the coupler's place about individual addresses.
+const SELECTED: u8 = 1;
+const OPEN: u8 = 2;
+
+/// The side that a frame is received from; as a number, also the row of its direction's codes.
 #[derive(Clone, Copy, Debug, PartialEq, Eq)]
 pub enum Side {
     Main,
@@ -18,6 +31,7 @@ pub enum Side {
 }
 
 impl Side {
+    /// "receiving side 0 main, 1 sub"; 14 by any other number.
     fn from_number(number: u8) -> Result<Side, u8> {
         match number {
             0 => Ok(Side::Main),
@@ -25,9 +39,17 @@ impl Side {
             _ => Err(RANGE),
         }
     }
+
+    /// The media that a frame from this side is received by and sent on by: "The main side is TP1
+    /// or IP; the sub side is TP1."
+    fn media(self, main: Medium) -> (Medium, Medium) {
+        match self {
+            Side::Main => (main, Medium::Tp1),
+            Side::Sub => (Medium::Tp1, main),
+        }
+    }
 }
 
-/// "The main side is TP1 or IP; the sub side is TP1."
 #[derive(Clone, Copy, Debug, PartialEq, Eq)]
 pub enum Medium {
     Tp1,
@@ -35,6 +57,7 @@ pub enum Medium {
 }
 
 impl Medium {
+    /// "main medium 0 TP1, 1 IP"; 14 by any other number.
     fn from_number(number: u8) -> Result<Medium, u8> {
         match number {
             0 => Ok(Medium::Tp1),
@@ -42,99 +65,124 @@ impl Medium {
             _ => Err(RANGE),
         }
     }
+
+    /// What a frame received by this medium means, and its payload; or the reader's refusal.
+    fn read(self, octets: &[u8]) -> Result<(Meaning, &[u8]), u8> {
+        match self {
+            Medium::Tp1 => tp1::read(octets).map(|frame| (frame.meaning, frame.payload)),
+            Medium::Ip => routing::read(octets).map(|frame| (frame.meaning, frame.payload)),
+        }
+    }
+
+    /// Writes a frame for this medium to the front of the room and returns its size; "on IP it is
+    /// a plain indication in a routing datagram".
+    fn write(self, meaning: &Meaning, payload: &[u8], room: &mut [u8]) -> Result<usize, u8> {
+        match self {
+            Medium::Tp1 => tp1::write_meaning(meaning, payload, room),
+            Medium::Ip => routing::write_meaning(meaning, payload, room),
+        }
+    }
 }
 
 /// A coupler's settings as they are given; any of them may be wrong.
 #[derive(Clone, Copy, Debug)]
 pub struct Coupler<'a> {
-    /// The line of its sub side.
+    /// "A line is named by the high octet of its addresses".
     pub line: u8,
-    /// A row for each direction, main to sub and sub to main: the codes for individual addresses,
-    /// broadcast, groups 0001h to 6FFFh and groups 7000h to FFFFh.
+    /// "two rows of four codes, one row for each direction (main to sub, sub to main)"
     pub codes: [[u8; 4]; 2],
+    /// The filter table, or nothing where no group code is 1.
     pub table: &'a [u8],
 }
 
 impl Coupler<'_> {
     /// "15, 18 (table length not 8,192, or 0 allowed if no group code is 1)"
     fn test(&self) -> Result<(), u8> {
-        if self.line == 0 || !self.codes.iter().all(is_row) {
+        if self.line == 0x00 || !self.codes.iter().all(is_row) {
             return Err(SETTING);
         }
-        let asks_table = self.codes.iter().any(|row| row[2..].contains(&1));
         match self.table.len() {
             TABLE_SIZE => Ok(()),
-            0 if !asks_table => Ok(()),
+            0 if !self.needs_table() => Ok(()),
             _ => Err(TABLE),
         }
     }
 
-    /// "A frame with AT 0 to the coupler's own address", which is its line followed by 00h.
+    /// Whether a group code of either direction is 1.
+    fn needs_table(&self) -> bool {
+        self.codes
+            .iter()
+            .any(|row| row[LOWER_GROUPS] == SELECTED || row[UPPER_GROUPS] == SELECTED)
+    }
+
+    /// "A frame with AT 0 to the coupler's own address is for itself"; that address "is n followed
+    /// by 00h".
     pub fn is_own(&self, group: bool, destination: u16) -> bool {
-        !group && destination.to_be_bytes() == [self.line, 0]
+        !group && destination.to_be_bytes() == [self.line, 0x00]
     }
 
     /// The code that decides about a frame from this side.
     pub fn code(&self, from: Side, group: bool, destination: u16) -> u8 {
-        let row = &self.codes[from as usize];
-        match (group, destination) {
-            (false, _) => row[0],
-            (true, 0x0000) => row[1],
-            (true, 0x0001..=0x6fff) => row[2],
-            (true, 0x7000..) => row[3],
+        self.codes[from as usize][place(group, destination)]
+    }
+
+    /// Whether address and codes let a frame from this side pass. A frame for the coupler itself
+    /// is "never forwarded, under any code", and a code that is not allowed opens nothing.
+    pub fn may_pass(&self, from: Side, group: bool, destination: u16) -> bool {
+        if self.is_own(group, destination) {
+            return false;
+        }
+        let code = self.code(from, group, destination);
+        match (code, place(group, destination)) {
+            (OPEN, _) => true,
+            (SELECTED, INDIVIDUAL) => self.leads_to(from, destination),
+            (SELECTED, LOWER_GROUPS | UPPER_GROUPS) => self.is_in_table(destination),
+            _ => false,
         }
     }
 
-    /// Whether address and codes let a frame from this side pass.
-    pub fn may_pass(&self, from: Side, group: bool, destination: u16) -> bool {
-        let open = match self.code(from, group, destination) {
-            0 => false,
-            1 if group => self.is_in_table(destination),
-            1 => self.leads_to(from, destination),
-            _ => true,
-        };
-        open && !self.is_own(group, destination)
-    }
-
-    /// "bit g mod 8 of octet g div 8 in the 8,192-octet filter table is one"
+    /// "bit g mod 8 of octet g div 8 in the 8,192-octet filter table is one"; past the end of a
+    /// shorter table no bit is.
     pub fn is_in_table(&self, group: u16) -> bool {
         let octet = self.table.get(usize::from(group / 8));
         octet.is_some_and(|octet| octet >> (group % 8) & 1 == 1)
     }
 
-    /// "where n mod 16 is not 0, down if the destination's high octet is n, up if it isn't;
-    /// otherwise down if the destination's area is the coupler's area, up if it isn't"
+    /// "Code 1 for individual: where n mod 16 is not 0, down if the destination's high octet is n,
+    /// up if it isn't; otherwise down if the destination's area is the coupler's area, up if it
+    /// isn't."
     pub fn leads_to(&self, from: Side, destination: u16) -> bool {
-        let [high, _] = destination.to_be_bytes();
-        let below = match self.line % 16 {
-            0 => high / 16 == self.line / 16,
-            _ => high == self.line,
+        let [line, _] = destination.to_be_bytes();
+        let is_below = match self.line % 16 {
+            0 => line / 16 == self.line / 16,
+            _ => line == self.line,
         };
         match from {
-            Side::Main => below,
-            Side::Sub => !below,
+            Side::Main => is_below,
+            Side::Sub => !is_below,
         }
     }
+}
 
-    /// The meaning to forward, where address, codes and count allow forwarding.
-    fn onward(&self, from: Side, meaning: &Meaning) -> Option<Meaning> {
-        let count = lowered(meaning.count)?;
-        self.may_pass(from, meaning.group, meaning.destination)
-            .then_some(Meaning {
-                first_sending: true,
-                count,
-                ..*meaning
-            })
+/// The place of an address's class in a row. "AT 1 means a group address; group 0000h is
+/// broadcast."
+fn place(group: bool, destination: u16) -> usize {
+    match destination {
+        _ if !group => INDIVIDUAL,
+        0x0000 => BROADCAST,
+        0x0001..=0x6fff => LOWER_GROUPS,
+        0x7000..=0xffff => UPPER_GROUPS,
     }
 }
 
-/// "individual 0, 1, 2; broadcast 0, 2; groups 0001h to 6FFFh 0, 1, 2; groups 7000h to FFFFh
-/// 0, 1, 2"
-pub(crate) fn is_row(&[individual, broadcast, lower, upper]: &[u8; 4]) -> bool {
-    individual <= 2 && matches!(broadcast, 0 | 2) && lower <= 2 && upper <= 2
+/// Whether the codes of one direction are allowed: "individual 0, 1, 2; broadcast 0, 2; groups
+/// 0001h to 6FFFh 0, 1, 2; groups 7000h to FFFFh 0, 1, 2".
+pub(crate) fn is_row(row: &[u8; 4]) -> bool {
+    row[BROADCAST] != SELECTED && row.iter().all(|code| (CLOSED..=OPEN).contains(code))
 }
 
-/// The count to forward with: 7 stays, "Count 0 is never forwarded", any other is one lower.
+/// The count, of 0 to 7, to forward with: 7 stays, another is one lower. "Count 0 is never
+/// forwarded."
 pub fn lowered(count: u8) -> Option<u8> {
     match count {
         7 => Some(7),
@@ -142,25 +190,28 @@ pub fn lowered(count: u8) -> Option<u8> {
     }
 }
 
-/// "the last accepted frame that was received from" a TP1 side
+/// What a TP1 side remembers: "the last accepted frame that was received from it".
 #[derive(Clone, Debug, PartialEq, Eq)]
 pub struct Remembered {
-    /// 0 where there is none.
+    /// The frame's size; there is none where it is 0 or above the largest frame's.
     pub size: usize,
     /// The frame, and behind it what stood there before.
     pub octets: [u8; LARGEST_FRAME],
 }
 
 impl Remembered {
+    /// "at the start none"
     const NONE: Remembered = Remembered {
         size: 0,
         octets: [0; LARGEST_FRAME],
     };
 
-    /// The frame; none also where the size is no frame's.
+    /// The remembered frame's octets.
     pub fn frame(&self) -> Option<&[u8]> {
-        let frame = self.octets.get(..self.size)?;
-        (!frame.is_empty()).then_some(frame)
+        match self.size {
+            0 => None,
+            size => self.octets.get(..size),
+        }
     }
 
     /// "An accepted frame marked repeated is a repetition if the remembered frame has the same
@@ -170,13 +221,14 @@ impl Remembered {
         !meaning.first_sending && self.frame().and_then(tp1::addresses) == Some(addresses)
     }
 
-    fn replace(&mut self, frame: &[u8]) {
-        self.size = frame.len();
+    /// "Afterwards the accepted frame is the remembered one."
+    fn remember(&mut self, frame: &[u8]) {
         self.octets[..frame.len()].copy_from_slice(frame);
+        self.size = frame.len();
     }
 }
 
-/// "Between frames each TP1 side remembers the last accepted frame"
+/// What is kept "between frames".
 #[derive(Clone, Debug, PartialEq, Eq)]
 pub struct Memory {
     pub main: Remembered,
@@ -184,7 +236,6 @@ pub struct Memory {
 }
 
 impl Default for Memory {
-    /// "at the start none"
     fn default() -> Memory {
         Memory {
             main: Remembered::NONE,
@@ -194,26 +245,31 @@ impl Default for Memory {
 }
 
 impl Memory {
-    fn of(&mut self, side: Side) -> &mut Remembered {
-        match side {
-            Side::Main => &mut self.main,
-            Side::Sub => &mut self.sub,
+    /// The part that a frame received so belongs to. "IP has neither memory nor acknowledgement."
+    fn part(&mut self, side: Side, medium: Medium) -> Option<&mut Remembered> {
+        match (medium, side) {
+            (Medium::Tp1, Side::Main) => Some(&mut self.main),
+            (Medium::Tp1, Side::Sub) => Some(&mut self.sub),
+            (Medium::Ip, _) => None,
         }
     }
 }
 
+/// "The step's result: number, acknowledgement or none, for itself or not, octets forwarded (0 if
+/// none)", where the number is 0.
 #[derive(Clone, Copy, Debug, PartialEq, Eq)]
 pub struct Outcome {
-    /// CCh, or no acknowledgement.
+    /// Whether the frame gets CCh.
     pub acknowledged: bool,
-    /// For the coupler itself.
+    /// Whether the frame is for the coupler itself.
     pub own: bool,
-    /// Octets forwarded, the first of the room; 0 if none.
+    /// How many octets at the front of the room are forwarded.
     pub forwarded: usize,
 }
 
-/// "Order: 15, 18 .., 14 (receiving side 0 main, 1 sub; main medium 0 TP1, 1 IP), 13 (room below
-/// 272), then the reader's."
+/// Takes the octets received from one side, and writes what goes out on the other to the front of
+/// the room: "A repetition isn't forwarded." "Order: 15, 18 .., 14 .., 13 (room below 272), then
+/// the reader's."
 pub fn step(
     coupler: &Coupler<'_>,
     side: u8,
@@ -224,465 +280,1221 @@ pub fn step(
 ) -> Result<Outcome, u8> {
     coupler.test()?;
     let side = Side::from_number(side)?;
-    let medium = Medium::from_number(medium)?;
+    let (received_by, sent_by) = side.media(Medium::from_number(medium)?);
     if room.len() < ROOM_SIZE {
         return Err(ROOM);
     }
-    match (side, medium) {
-        (Side::Main, Medium::Ip) => from_ip(coupler, octets, room),
-        _ => from_tp1(coupler, side, medium, memory.of(side), octets, room),
-    }
-}
-
-/// "IP has neither memory nor acknowledgement."
-fn from_ip(coupler: &Coupler<'_>, octets: &[u8], room: &mut [u8]) -> Result<Outcome, u8> {
-    let frame = routing::read(octets)?;
-    let forwarded = match coupler.onward(Side::Main, &frame.meaning) {
-        Some(onward) => tp1::write_meaning(&onward, frame.payload, room)?,
-        None => 0,
+    let (meaning, payload) = received_by.read(octets)?;
+    let own = coupler.is_own(meaning.group, meaning.destination);
+    let allowed = onward(coupler, side, &meaning);
+    let mut remembered = memory.part(side, received_by);
+    let is_repetition = matches!(&remembered, Some(part) if part.is_repeated_by(&meaning));
+    let forwarded = match &allowed {
+        Some(onward) if !is_repetition => sent_by.write(onward, payload, room)?,
+        _ => 0,
     };
+    if let Some(part) = &mut remembered {
+        part.remember(octets);
+    }
     Ok(Outcome {
-        acknowledged: false,
-        own: coupler.is_own(frame.meaning.group, frame.meaning.destination),
+        // "A TP1 frame gets CCh exactly if it is for the coupler itself or, repetition or not, its
+        // address, codes and count allow forwarding"
+        acknowledged: received_by == Medium::Tp1 && (own || allowed.is_some()),
+        own,
         forwarded,
     })
 }
 
-fn from_tp1(
-    coupler: &Coupler<'_>,
-    side: Side,
-    medium: Medium,
-    remembered: &mut Remembered,
-    octets: &[u8],
-    room: &mut [u8],
-) -> Result<Outcome, u8> {
-    let frame = tp1::read(octets)?;
-    let repetition = remembered.is_repeated_by(&frame.meaning);
-    remembered.replace(octets);
-    let own = coupler.is_own(frame.meaning.group, frame.meaning.destination);
-    let onward = coupler.onward(side, &frame.meaning);
-    let write = match (side, medium) {
-        (Side::Sub, Medium::Ip) => routing::write_meaning,
-        _ => tp1::write_meaning,
-    };
-    let forwarded = match &onward {
-        Some(onward) if !repetition => write(onward, frame.payload, room)?,
-        _ => 0,
-    };
-    Ok(Outcome {
-        // "exactly if it is for the coupler itself or, repetition or not, its address, codes and
-        // count allow forwarding"
-        acknowledged: own || onward.is_some(),
-        own,
-        forwarded,
+/// What goes out if a frame's "address, codes and count allow forwarding": it "keeps format,
+/// priority, addresses and payload; its repeat flag says first sending", and its count is lowered.
+fn onward(coupler: &Coupler<'_>, from: Side, meaning: &Meaning) -> Option<Meaning> {
+    let count = lowered(meaning.count)?;
+    let may_pass = coupler.may_pass(from, meaning.group, meaning.destination);
+    may_pass.then_some(Meaning {
+        first_sending: true,
+        count,
+        ..*meaning
     })
 }
 
 #[cfg(test)]
 mod tests {
     use super::*;
-    use crate::check_octet;
+    use crate::site::main_side;
+    use crate::Format;
 
-    const P1: [u8; 12] = [
-        0xbc, 0x00, 0x00, 0x12, 0x34, 0xb4, 0x00, 0x80, 0x56, 0x78, 0x9a, 0xe5,
-    ];
-
-    const P7: [u8; 20] = [
-        0x06, 0x10, 0x05, 0x30, 0x00, 0x14, 0x29, 0x00, 0xbc, 0xc0, 0x00, 0x00, 0x12, 0x34, 0x04,
-        0x00, 0x80, 0x56, 0x78, 0x9a,
-    ];
-
+    /// Receiving sides and main media, as the numbers that a caller gives.
     const MAIN: u8 = 0;
     const SUB: u8 = 1;
     const TP1: u8 = 0;
     const IP: u8 = 1;
 
-    const STOPPED: Outcome = Outcome {
-        acknowledged: false,
-        own: false,
-        forwarded: 0,
-    };
+    /// Stands where nothing may be written.
+    const UNTOUCHED: u8 = 0x55;
+    const PAYLOAD: [u8; 2] = [0x00, 0x81];
 
-    const OWN: Outcome = Outcome {
-        acknowledged: true,
-        own: true,
-        forwarded: 0,
-    };
+    const P1: [u8; 12] = [
+        0xbc, 0x00, 0x00, 0x12, 0x34, 0xb4, 0x00, 0x80, 0x56, 0x78, 0x9a, 0xe5,
+    ];
+    const P7: [u8; 20] = [
+        0x06, 0x10, 0x05, 0x30, 0x00, 0x14, 0x29, 0x00, 0xbc, 0xc0, 0x00, 0x00, 0x12, 0x34, 0x04,
+        0x00, 0x80, 0x56, 0x78, 0x9a,
+    ];
+    const P10: [u8; 9] = [0xb0, 0xaf, 0xfe, 0x00, 0x00, 0xe1, 0x01, 0x00, 0xfe];
 
-    const REPETITION: Outcome = Outcome {
-        acknowledged: true,
-        own: false,
-        forwarded: 0,
-    };
+    /// The answer to an accepted frame.
+    #[derive(Clone, Debug, PartialEq, Eq)]
+    struct Answer {
+        acknowledged: bool,
+        own: bool,
+        octets: Vec<u8>,
+    }
 
-    /// The same four codes in both directions, and no filter table.
-    fn coupler(line: u8, row: [u8; 4]) -> Coupler<'static> {
-        Coupler {
-            line,
-            codes: [row; 2],
-            table: &[],
+    fn answer(acknowledged: bool, own: bool, octets: &[u8]) -> Result<Answer, u8> {
+        let octets = octets.to_vec();
+        Ok(Answer {
+            acknowledged,
+            own,
+            octets,
+        })
+    }
+
+    /// CCh and these octets.
+    fn forwarded(octets: &[u8]) -> Result<Answer, u8> {
+        answer(true, false, octets)
+    }
+
+    /// CCh alone: a repetition.
+    fn held() -> Result<Answer, u8> {
+        answer(true, false, &[])
+    }
+
+    fn for_itself() -> Result<Answer, u8> {
+        answer(true, true, &[])
+    }
+
+    fn ignored() -> Result<Answer, u8> {
+        answer(false, false, &[])
+    }
+
+    /// These octets, without an acknowledgement.
+    fn forwarded_from_ip(octets: &[u8]) -> Result<Answer, u8> {
+        answer(false, false, octets)
+    }
+
+    fn for_itself_from_ip() -> Result<Answer, u8> {
+        answer(false, true, &[])
+    }
+
+    /// A coupler at work.
+    #[derive(Clone)]
+    struct Fitted<'a> {
+        coupler: Coupler<'a>,
+        medium: u8,
+        memory: Memory,
+    }
+
+    impl Fitted<'_> {
+        /// One step in a room of more than enough octets. Whatever the answer is, it must keep the
+        /// sentences about memory and room.
+        #[track_caller]
+        fn take(&mut self, side: u8, octets: &[u8]) -> Result<Answer, u8> {
+            let mut room = [UNTOUCHED; 300];
+            let mut expected = self.memory.clone();
+            let (coupler, medium, memory) = (&self.coupler, self.medium, &mut self.memory);
+            let outcome = step(coupler, side, medium, memory, octets, &mut room);
+            let size = outcome.map_or(0, |it| it.forwarded);
+            assert!(room[size..].iter().all(|&octet| octet == UNTOUCHED));
+            if outcome.is_ok() && (side, medium) != (MAIN, IP) {
+                let part = match side {
+                    MAIN => &mut expected.main,
+                    _ => &mut expected.sub,
+                };
+                part.size = octets.len();
+                part.octets[..octets.len()].copy_from_slice(octets);
+            }
+            assert!(self.memory == expected, "memory");
+            let it = outcome?;
+            answer(it.acknowledged, it.own, &room[..size])
         }
     }
 
-    fn table_of(groups: &[u16]) -> Vec<u8> {
-        let mut table = vec![0; TABLE_SIZE];
+    /// Nothing is remembered yet, and the octets to remember in are not those of the start.
+    fn fitted(line: u8, codes: [[u8; 4]; 2], medium: u8) -> Fitted<'static> {
+        let none = |octet| Remembered {
+            size: 0,
+            octets: [octet; LARGEST_FRAME],
+        };
+        Fitted {
+            coupler: Coupler {
+                line,
+                codes,
+                table: &[],
+            },
+            medium,
+            memory: Memory {
+                main: none(0xa1),
+                sub: none(0xa2),
+            },
+        }
+    }
+
+    /// All codes open.
+    fn open(line: u8, medium: u8) -> Fitted<'static> {
+        fitted(line, [[2; 4]; 2], medium)
+    }
+
+    fn closed(line: u8, medium: u8) -> Fitted<'static> {
+        fitted(line, [[0; 4]; 2], medium)
+    }
+
+    /// A first sending in the standard format.
+    fn to(group: bool, destination: u16, count: u8) -> Meaning {
+        Meaning {
+            format: Format::Standard,
+            first_sending: true,
+            priority: 0b11,
+            source: 0x4712,
+            group,
+            destination,
+            count,
+        }
+    }
+
+    fn to_group(destination: u16, count: u8) -> Meaning {
+        to(true, destination, count)
+    }
+
+    fn to_device(destination: u16, count: u8) -> Meaning {
+        to(false, destination, count)
+    }
+
+    fn repeated(meaning: Meaning) -> Meaning {
+        Meaning {
+            first_sending: false,
+            ..meaning
+        }
+    }
+
+    fn counted(meaning: Meaning, count: u8) -> Meaning {
+        Meaning { count, ..meaning }
+    }
+
+    fn control(meaning: &Meaning) -> u8 {
+        let format = match meaning.format {
+            Format::Standard => 0b1000_0000,
+            Format::Extended => 0b0000_0000,
+        };
+        let repeat = match meaning.first_sending {
+            true => 0b0010_0000,
+            false => 0b0000_0000,
+        };
+        0b0001_0000 + format + repeat + 4 * meaning.priority
+    }
+
+    fn at_and_count(meaning: &Meaning) -> u8 {
+        match meaning.group {
+            true => 0x80 + 16 * meaning.count,
+            false => 16 * meaning.count,
+        }
+    }
+
+    fn addresses(meaning: &Meaning) -> Vec<u8> {
+        [
+            meaning.source.to_be_bytes(),
+            meaning.destination.to_be_bytes(),
+        ]
+        .concat()
+    }
+
+    /// The frame on TP1, laid out here by "Standard" and "Extended".
+    fn frame_with(meaning: &Meaning, payload: &[u8]) -> Vec<u8> {
+        let (control, at_and_count) = (control(meaning), at_and_count(meaning));
+        let addresses = addresses(meaning);
+        let lg = payload.len() as u8 - 1;
+        let mut octets = match meaning.format {
+            Format::Standard => [&[control], &addresses[..], &[at_and_count + lg]].concat(),
+            Format::Extended => [&[control, at_and_count], &addresses[..], &[lg]].concat(),
+        };
+        octets.extend(payload);
+        octets.push(octets.iter().fold(0xff, |sum, octet| sum ^ octet));
+        octets
+    }
+
+    fn frame(meaning: &Meaning) -> Vec<u8> {
+        frame_with(meaning, &PAYLOAD)
+    }
+
+    /// The datagram on IP, in cEMI's plain form.
+    fn datagram_with(meaning: &Meaning, payload: &[u8]) -> Vec<u8> {
+        let [t1, t0] = (15 + payload.len() as u16).to_be_bytes();
+        let header = [0x06, 0x10, 0x05, 0x30, t1, t0, 0x29, 0x00];
+        let lg = payload.len() as u8 - 1;
+        let controls = [control(meaning), at_and_count(meaning)];
+        [&header, &controls[..], &addresses(meaning), &[lg], payload].concat()
+    }
+
+    fn datagram(meaning: &Meaning) -> Vec<u8> {
+        datagram_with(meaning, &PAYLOAD)
+    }
+
+    /// A filter table with only these groups in it.
+    fn table(groups: &[u16]) -> Vec<u8> {
+        let mut table = vec![0; 8192];
         for &group in groups {
-            table[usize::from(group / 8)] |= 1 << (group % 8);
+            table[usize::from(group) / 8] |= 1 << (group % 8);
         }
         table
     }
 
-    /// A standard frame from AFFEh with payload 01 00, first sending.
-    fn frame(destination: u16, at_and_count: u8) -> Vec<u8> {
-        let [d1, d0] = destination.to_be_bytes();
-        checked(&[0xb0, 0xaf, 0xfe, d1, d0, at_and_count | 1, 0x01, 0x00])
-    }
+    // The telegrams to check against.
 
-    fn repeated(frame: &[u8]) -> Vec<u8> {
-        let mut before = frame[..frame.len() - 1].to_vec();
-        before[0] &= !0x20;
-        checked(&before)
-    }
-
-    fn checked(before: &[u8]) -> Vec<u8> {
-        [before, &[check_octet(before)]].concat()
-    }
-
-    /// The outcome and the octets forwarded; those behind them must stay.
-    fn stepped(
-        coupler: &Coupler<'_>,
-        side: u8,
-        medium: u8,
-        memory: &mut Memory,
-        octets: &[u8],
-    ) -> (Outcome, Vec<u8>) {
-        let mut room = [0x55; 300];
-        let outcome = step(coupler, side, medium, memory, octets, &mut room).unwrap();
-        let (forwarded, behind) = room.split_at(outcome.forwarded);
-        assert!(behind.iter().all(|&octet| octet == 0x55));
-        (outcome, forwarded.to_vec())
-    }
-
-    /// The outcome of a first step from TP1 to TP1.
-    fn first(coupler: &Coupler<'_>, side: u8, octets: &[u8]) -> Outcome {
-        stepped(coupler, side, TP1, &mut Memory::default(), octets).0
-    }
-
-    fn is_forwarded(coupler: &Coupler<'_>, side: u8, destination: u16, at_and_count: u8) -> bool {
-        let outcome = first(coupler, side, &frame(destination, at_and_count));
-        assert_eq!(outcome.acknowledged, outcome.own || outcome.forwarded > 0);
-        outcome.forwarded > 0
-    }
-
-    /// What coupler 1.1 with groups open makes of a datagram, which leaves its memory.
-    fn from_ip(datagram: &[u8]) -> (Outcome, Vec<u8>) {
-        let mut memory = Memory::default();
-        let result = stepped(
-            &coupler(0x11, [0, 0, 2, 2]),
-            MAIN,
-            IP,
-            &mut memory,
-            datagram,
-        );
-        assert_eq!(memory, Memory::default());
-        result
+    #[test]
+    fn p7_groups_open_from_ip() {
+        let mut coupler = fitted(0x11, [[0, 0, 2, 2], [0; 4]], IP);
+        assert_eq!(coupler.take(MAIN, &P7), forwarded_from_ip(&P1));
     }
 
     #[test]
-    fn p7_gives_p1() {
-        let (outcome, octets) = from_ip(&P7);
-        assert_eq!(octets, P1);
-        assert_eq!(
-            outcome,
-            Outcome {
-                forwarded: 12,
-                ..STOPPED
-            }
-        );
+    fn p8_count_0_from_ip() {
+        let mut octets = P7;
+        octets[9] = 0x80;
+        assert_eq!(open(0x11, IP).take(MAIN, &octets), ignored());
     }
 
     #[test]
-    fn p8_is_stopped() {
-        let mut datagram = P7;
-        datagram[9] = 0x80;
-        assert_eq!(from_ip(&datagram), (STOPPED, vec![]));
-    }
-
-    #[test]
-    fn p9_keeps_count_7() {
-        let mut datagram = P7;
-        datagram[9] = 0xf0;
+    fn p9_count_7_stays() {
+        let mut octets = P7;
+        octets[9] = 0xf0;
         let expected = [
             0xbc, 0x00, 0x00, 0x12, 0x34, 0xf4, 0x00, 0x80, 0x56, 0x78, 0x9a, 0xa5,
         ];
-        assert_eq!(from_ip(&datagram).1, expected);
+        let answer = open(0x11, IP).take(MAIN, &octets);
+        assert_eq!(answer, forwarded_from_ip(&expected));
     }
 
     #[test]
-    fn p10_broadcast_from_main() {
-        let octets = [0xb0, 0xaf, 0xfe, 0x00, 0x00, 0xe1, 0x01, 0x00, 0xfe];
+    fn p10_broadcast_open() {
+        let mut coupler = fitted(0xff, [[0, 2, 0, 0], [0; 4]], TP1);
         let expected = [0xb0, 0xaf, 0xfe, 0x00, 0x00, 0xd1, 0x01, 0x00, 0xce];
-        let coupler = coupler(0xff, [0, 2, 0, 0]);
-        let mut memory = Memory::default();
-        let (outcome, forwarded) = stepped(&coupler, MAIN, TP1, &mut memory, &octets);
-        assert!(outcome.acknowledged && !outcome.own);
-        assert_eq!(forwarded, expected);
-        assert_eq!(memory.main.frame(), Some(&octets[..]));
-        assert_eq!(memory.sub, Memory::default().sub);
+        assert_eq!(coupler.take(MAIN, &P10), forwarded(&expected));
     }
 
     #[test]
-    fn p11_bits_of_the_filter_table() {
-        let table = |place: usize, octet| {
-            let mut table = vec![0; TABLE_SIZE];
-            table[place] = octet;
-            table
-        };
-        let passes = |table: &[u8], group| {
-            let codes = [[0, 0, 1, 1]; 2];
-            let coupler = Coupler {
-                table,
-                codes,
-                line: 0x11,
-            };
-            is_forwarded(&coupler, MAIN, group, 0xe0)
-        };
-        assert!(passes(&table(3583, 0x80), 0x6fff));
-        assert!(!passes(&table(3583, 0x7f), 0x6fff));
-        assert!(passes(&table(3584, 0x01), 0x7000));
-        assert!(!passes(&table(3584, 0xfe), 0x7000));
-    }
-
-    #[test]
-    fn check_octet_is_worked_out_again() {
-        let octets = frame(0x1234, 0xe0);
-        let (_, forwarded) = stepped(
-            &coupler(0x11, [2; 4]),
-            SUB,
-            TP1,
-            &mut Memory::default(),
-            &octets,
-        );
-        assert_eq!(forwarded, frame(0x1234, 0xd0));
-        assert_ne!(forwarded.last(), octets.last());
-    }
-
-    #[test]
-    fn count_7_is_not_lowered() {
-        assert_eq!(lowered(7), Some(7));
-        assert_eq!(lowered(6), Some(5));
-        assert_eq!(lowered(1), Some(0));
-        assert_eq!(lowered(0), None);
-    }
-
-    #[test]
-    fn frame_for_4_7_0_stays_out_of_line_4_7() {
-        for row in [[1, 0, 0, 0], [2, 0, 0, 0]] {
-            for side in [MAIN, SUB] {
-                let outcome = first(&coupler(0x47, row), side, &frame(0x4700, 0x60));
-                assert_eq!(outcome, OWN);
+    fn p11_border_of_the_groups() {
+        for (group, place, octet) in [(0x6fff, 3583, 0x80), (0x7000, 3584, 0x01)] {
+            let mut octets = [0; 8192];
+            octets[place] = octet;
+            let mut coupler = fitted(0x11, [[0, 0, 1, 1]; 2], TP1);
+            coupler.coupler.table = &octets;
+            for other in [0x6ff7, 0x6ff8, 0x6ffe, 0x6fff, 0x7000, 0x7001, 0x7008] {
+                assert_eq!(coupler.coupler.is_in_table(other), other == group);
+                let expected = match other == group {
+                    true => forwarded(&frame(&to_group(other, 4))),
+                    false => ignored(),
+                };
+                let answer = coupler.take(MAIN, &frame(&to_group(other, 5)));
+                assert_eq!(answer, expected, "{other:x} by the bit of {group:x}");
             }
-            assert!(is_forwarded(&coupler(0x47, row), MAIN, 0x4701, 0x60));
         }
     }
 
     #[test]
-    fn broadcast_is_not_in_the_filter_table() {
-        for (broadcast, groups) in [(0, [0x0000].as_slice()), (2, &[])] {
-            let coupler = Coupler {
-                line: 0x11,
-                codes: [[0, broadcast, 1, 1]; 2],
-                table: &table_of(groups),
-            };
-            let forwarded = is_forwarded(&coupler, MAIN, 0x0000, 0xe0);
-            assert_eq!(forwarded, broadcast == 2);
-        }
-    }
-
-    #[test]
-    fn lines_of_area_0_are_lines() {
-        let coupler = coupler(0x05, [1, 0, 0, 0]);
-        assert!(is_forwarded(&coupler, MAIN, 0x0501, 0x60));
-        assert!(!is_forwarded(&coupler, MAIN, 0x0601, 0x60));
-        assert!(!is_forwarded(&coupler, MAIN, 0x0001, 0x60));
-        assert!(is_forwarded(&coupler, SUB, 0x0601, 0x60));
-        assert!(is_forwarded(&coupler, SUB, 0x0001, 0x60));
-        assert!(!is_forwarded(&coupler, SUB, 0x0501, 0x60));
-    }
-
-    #[test]
-    fn repetition_is_acknowledged_and_not_forwarded() {
-        let (coupler, mut memory) = (coupler(0x11, [2; 4]), Memory::default());
-        let octets = frame(0x1234, 0xe0);
-        let mut step = |octets: &[u8]| stepped(&coupler, SUB, TP1, &mut memory, octets).0;
-        assert!(step(&octets).forwarded > 0);
-        assert_eq!(step(&repeated(&octets)), REPETITION);
-        assert_eq!(step(&repeated(&octets)), REPETITION);
-        assert!(step(&octets).forwarded > 0);
-        assert_eq!(memory.sub.frame(), Some(&octets[..]));
-        assert_eq!(memory.main, Memory::default().main);
-    }
-
-    #[test]
-    fn repetition_is_known_by_addresses_alone() {
-        let (coupler, mut memory) = (coupler(0x11, [2; 4]), Memory::default());
-        let mut step = |octets: &[u8]| stepped(&coupler, SUB, TP1, &mut memory, octets).0;
-        assert!(step(&repeated(&frame(0x1234, 0xe0))).forwarded > 0);
-        let extended = checked(&[0x14, 0x90, 0xaf, 0xfe, 0x12, 0x34, 0x00, 0x55]);
-        assert_eq!(step(&extended), REPETITION);
-        assert!(step(&repeated(&frame(0x1235, 0xe0))).forwarded > 0);
-        assert!(step(&repeated(&frame(0x1235, 0x60))).forwarded > 0);
-        let other_source = checked(&[0x90, 0xaf, 0xff, 0x12, 0x35, 0x60, 0x00]);
-        assert!(step(&other_source).forwarded > 0);
-    }
-
-    #[test]
-    fn each_accepted_frame_is_remembered() {
-        let mut memory = Memory::default();
-        let closed = coupler(0x11, [0; 4]);
-        let octets = frame(0x1234, 0xe0);
-        let outcome = stepped(&closed, MAIN, TP1, &mut memory, &octets).0;
-        assert_eq!(outcome, STOPPED);
-        let open = coupler(0x11, [2; 4]);
-        let outcome = stepped(&open, MAIN, TP1, &mut memory, &repeated(&octets)).0;
-        assert_eq!(outcome, REPETITION);
-        let outcome = stepped(&open, SUB, TP1, &mut memory, &repeated(&octets)).0;
-        assert!(outcome.forwarded > 0);
-    }
-
-    #[test]
-    fn own_frames_at_count_0_and_repeated() {
-        let (coupler, mut memory) = (coupler(0x47, [0; 4]), Memory::default());
-        let octets = frame(0x4700, 0x00);
-        for octets in [octets.clone(), repeated(&octets)] {
-            assert_eq!(stepped(&coupler, SUB, TP1, &mut memory, &octets).0, OWN);
-        }
-        let group = frame(0x4700, 0xe0);
-        assert_eq!(first(&coupler, SUB, &group), STOPPED);
-    }
-
-    #[test]
-    fn own_frame_from_ip_is_not_acknowledged() {
-        let mut datagram = P7;
-        datagram[9] = 0x40;
-        datagram[12..14].copy_from_slice(&[0x11, 0x00]);
-        let expected = Outcome {
-            acknowledged: false,
-            ..OWN
-        };
-        assert_eq!(from_ip(&datagram), (expected, vec![]));
-    }
-
-    #[test]
-    fn count_0_is_stopped_and_not_acknowledged() {
-        assert!(!is_forwarded(&coupler(0x11, [2; 4]), MAIN, 0x1234, 0x80));
-    }
-
-    #[test]
-    fn filter_table_decides_at_count_7_too() {
-        let coupler = Coupler {
-            line: 0x11,
-            codes: [[0, 0, 1, 0]; 2],
-            table: &table_of(&[0x1234]),
-        };
-        assert!(is_forwarded(&coupler, SUB, 0x1234, 0xf0));
-        assert!(!is_forwarded(&coupler, SUB, 0x1235, 0xf0));
-    }
-
-    #[test]
-    fn nothing_from_ip_is_a_repetition() {
-        let (coupler, mut memory) = (coupler(0x11, [2; 4]), Memory::default());
-        stepped(&coupler, MAIN, TP1, &mut memory, &P1);
-        let before = memory.clone();
-        let mut datagram = P7;
-        datagram[8] &= !0x20;
-        let (outcome, octets) = stepped(&coupler, MAIN, IP, &mut memory, &datagram);
-        assert!(!outcome.acknowledged);
-        assert_eq!(octets, P1);
-        assert_eq!(memory, before);
-    }
-
-    #[test]
-    fn plain_indication_to_ip() {
-        let (coupler, mut memory) = (coupler(0x11, [2; 4]), Memory::default());
-        let octets = repeated(&P1);
-        let (outcome, datagram) = stepped(&coupler, SUB, IP, &mut memory, &octets);
+    fn p1_from_sub_to_ip() {
         let mut expected = P7;
         expected[9] = 0xa0;
-        assert!(outcome.acknowledged);
-        assert_eq!(datagram, expected);
+        let answer = open(0x11, IP).take(SUB, &P1);
+        assert_eq!(answer, forwarded(&expected));
+    }
+
+    // Codes.
+
+    /// One code of the eight open, all others closed: it lets its class pass in its direction.
+    #[test]
+    fn each_code_rules_its_class_and_direction() {
+        let classes: [(bool, &[u16]); 4] = [
+            (false, &[0x0000, 0x0001, 0x6fff, 0x7000, 0xffff]),
+            (true, &[0x0000]),
+            (true, &[0x0001, 0x1234, 0x6fff]),
+            (true, &[0x7000, 0xabcd, 0xffff]),
+        ];
+        for (row, place) in (0..8).map(|code| (code / 4, code % 4)) {
+            let mut codes = [[0; 4]; 2];
+            codes[row][place] = 2;
+            let mut coupler = fitted(0x11, codes, TP1);
+            for (side, class) in (0..8).map(|class| (class / 4, class % 4)) {
+                let (group, destinations) = classes[class];
+                for &destination in destinations {
+                    let answer = coupler.take(side as u8, &frame(&to(group, destination, 2)));
+                    let expected = match (side, class) == (row, place) {
+                        true => forwarded(&frame(&to(group, destination, 1))),
+                        false => ignored(),
+                    };
+                    assert_eq!(answer, expected, "{side} {group} {destination:x}");
+                }
+            }
+        }
     }
 
     #[test]
-    fn area_couplers_and_line_couplers() {
-        let area = coupler(0x40, [1, 0, 0, 0]);
-        assert!(is_forwarded(&area, MAIN, 0x4701, 0x60));
-        assert!(!is_forwarded(&area, MAIN, 0x5701, 0x60));
-        assert!(is_forwarded(&area, SUB, 0x5701, 0x60));
-        assert!(!is_forwarded(&area, SUB, 0x4701, 0x60));
-        let line = coupler(0x47, [1, 0, 0, 0]);
-        assert!(!is_forwarded(&line, MAIN, 0x4000, 0x60));
-        assert!(is_forwarded(&line, SUB, 0x4000, 0x60));
-        let open = coupler(0x47, [2, 0, 0, 0]);
-        assert!(is_forwarded(&open, SUB, 0x4701, 0x60));
+    fn rows_by_receiving_side_and_places_by_class() {
+        let coupler = Coupler {
+            line: 0x11,
+            codes: [[0, 1, 2, 3], [4, 5, 6, 7]],
+            table: &[],
+        };
+        for (from, first) in [(Side::Main, 0), (Side::Sub, 4)] {
+            for destination in 0..=0xffff {
+                let class = match destination {
+                    0 => 1,
+                    1..0x7000 => 2,
+                    _ => 3,
+                };
+                assert_eq!(coupler.code(from, false, destination), first);
+                assert_eq!(coupler.code(from, true, destination), first + class);
+            }
+        }
     }
 
-    fn refused(coupler: &Coupler<'_>, numbers: [u8; 2], octets: &[u8], lent: usize) -> u8 {
-        let (mut memory, mut room) = (Memory::default(), [0x55; 300]);
-        let [side, medium] = numbers;
-        let refusal = step(
-            coupler,
-            side,
-            medium,
-            &mut memory,
-            octets,
-            &mut room[..lent],
-        );
-        assert_eq!(memory, Memory::default());
-        assert_eq!(room, [0x55; 300]);
-        refusal.unwrap_err()
+    #[test]
+    fn codes_that_are_not_allowed_open_nothing() {
+        let table = [0xff; 8192];
+        for (place, destination) in [(0, 0x1234), (1, 0x0000), (2, 0x1234), (3, 0x7000)] {
+            for code in 0..=255 {
+                let mut codes = [[0; 4]; 2];
+                codes[0][place] = code;
+                let coupler = Coupler {
+                    line: 0x12,
+                    codes,
+                    table: &table,
+                };
+                let passes = coupler.may_pass(Side::Main, place != 0, destination);
+                let expected = code == 2 || code == 1 && place != 1;
+                assert_eq!(passes, expected, "{code} for {place}");
+            }
+        }
+    }
+
+    #[test]
+    fn allowed_codes() {
+        for place in 0..8 {
+            for code in 0..=255 {
+                let mut codes = [[0; 4]; 2];
+                codes[place / 4][place % 4] = code;
+                let is_allowed = match place % 4 {
+                    1 => [0, 2].contains(&code),
+                    _ => [0, 1, 2].contains(&code),
+                };
+                assert_eq!(is_row(&codes[place / 4]), is_allowed);
+                let octets = table(&[]);
+                let mut coupler = fitted(0x11, codes, TP1);
+                coupler.coupler.table = &octets;
+                // A frame from the other side, which that code says nothing about.
+                let other_side = 1 - place as u8 / 4;
+                let answer = coupler.take(other_side, &frame(&to_device(0x1234, 6)));
+                let expected = if is_allowed { ignored() } else { Err(15) };
+                assert_eq!(answer, expected, "code {code} in place {place}");
+            }
+        }
+    }
+
+    #[test]
+    fn every_line_but_00_has_a_coupler() {
+        for line in 0..=255 {
+            let sent = frame(&to_group(0x1234, 6));
+            let expected = match line {
+                0x00 => Err(15),
+                _ => forwarded(&frame(&to_group(0x1234, 5))),
+            };
+            assert_eq!(open(line, TP1).take(MAIN, &sent), expected, "{line:x}");
+        }
+    }
+
+    // The filter table.
+
+    #[test]
+    fn each_group_has_its_bit() {
+        let mut octets = vec![0; 8192];
+        for group in 0..=0xffff_u16 {
+            let place = usize::from(group / 8);
+            octets[place] = [1, 2, 4, 8, 16, 32, 64, 128][usize::from(group % 8)];
+            let coupler = Coupler {
+                line: 0x11,
+                codes: [[0; 4]; 2],
+                table: &octets,
+            };
+            assert!(coupler.is_in_table(group));
+            for bit in 0..16 {
+                assert!(!coupler.is_in_table(group ^ 1 << bit));
+            }
+            octets[place] = 0;
+        }
+    }
+
+    #[test]
+    fn nothing_is_in_a_table_past_its_end() {
+        let coupler = |table| Coupler {
+            line: 0x11,
+            codes: [[0; 4]; 2],
+            table,
+        };
+        assert!(!coupler(&[]).is_in_table(0x0000));
+        assert!(!coupler(&[]).is_in_table(0xffff));
+        assert!(coupler(&[0xff]).is_in_table(0x0007));
+        assert!(!coupler(&[0xff]).is_in_table(0x0008));
+    }
+
+    #[test]
+    fn table_decides_for_both_directions_and_at_every_count() {
+        let octets = table(&[0x1234, 0x8765]);
+        let mut coupler = fitted(0x11, [[0, 0, 1, 1]; 2], TP1);
+        coupler.coupler.table = &octets;
+        for side in [MAIN, SUB] {
+            for (count, onward) in [(1, 0), (4, 3), (6, 5), (7, 7)] {
+                for group in [0x1234, 0x8765] {
+                    let answer = coupler.take(side, &frame(&to_group(group, count)));
+                    assert_eq!(answer, forwarded(&frame(&to_group(group, onward))));
+                }
+                for group in [0x1235, 0x123c, 0x0001, 0x8764, 0xffff] {
+                    let answer = coupler.take(side, &frame(&to_group(group, count)));
+                    assert_eq!(answer, ignored(), "{group:x} count {count}");
+                }
+            }
+        }
+    }
+
+    /// Under codes 0 and 2 the table is "allowed, not looked at".
+    #[test]
+    fn table_is_read_under_code_1_only() {
+        for octet in [0x00, 0xff] {
+            let octets = [octet; 8192];
+            let mut coupler = fitted(0x11, [[2, 2, 2, 0], [2, 0, 0, 2]], TP1);
+            coupler.coupler.table = &octets;
+            for (side, group, passes) in [
+                (MAIN, 0x1234, true),
+                (MAIN, 0x7234, false),
+                (SUB, 0x1234, false),
+                (SUB, 0x7234, true),
+            ] {
+                let expected = match passes {
+                    true => forwarded(&frame(&to_group(group, 5))),
+                    false => ignored(),
+                };
+                let answer = coupler.take(side, &frame(&to_group(group, 6)));
+                assert_eq!(answer, expected, "{group:x}");
+            }
+        }
+    }
+
+    /// An error that looks right: "reading group 0000h from the filter table".
+    #[test]
+    fn broadcast_is_not_read_from_the_table() {
+        for octet in [0x00, 0xff] {
+            let octets = [octet; 8192];
+            let mut coupler = fitted(0x11, [[0, 2, 1, 1], [0, 0, 1, 1]], TP1);
+            coupler.coupler.table = &octets;
+            let sent = frame(&to_group(0x0000, 6));
+            let expected = forwarded(&frame(&to_group(0x0000, 5)));
+            assert_eq!(coupler.take(MAIN, &sent), expected);
+            assert_eq!(coupler.take(SUB, &sent), ignored());
+        }
+    }
+
+    #[test]
+    fn table_lengths() {
+        for length in [0, 1, 8, 3584, 8191, 8192, 8193, 16384] {
+            let octets = vec![0; length];
+            for place in 0..8 {
+                for code in [0, 1, 2] {
+                    let mut codes = [[0; 4]; 2];
+                    codes[place / 4][place % 4] = code;
+                    let is_group_code = place % 4 >= 2;
+                    let expected = match length {
+                        _ if code == 1 && place % 4 == 1 => Err(15),
+                        8192 => Ok(()),
+                        0 if !(is_group_code && code == 1) => Ok(()),
+                        _ => Err(18),
+                    };
+                    let mut coupler = fitted(0x11, codes, TP1);
+                    coupler.coupler.table = &octets;
+                    for side in [MAIN, SUB] {
+                        let answer = coupler.take(side, &P1).map(|_| ());
+                        assert_eq!(answer, expected, "{length} {place} {code}");
+                    }
+                }
+            }
+        }
+    }
+
+    // Individual addresses.
+
+    /// Code 1 in the tree of lines: below a line coupler is its line, below an area coupler also
+    /// each line whose main side that is.
+    #[test]
+    fn individual_code_1_of_every_coupler_for_every_line() {
+        for line in 1..=255 {
+            let coupler = Coupler {
+                line,
+                codes: [[1, 0, 0, 0]; 2],
+                table: &[],
+            };
+            for high in 0..=255 {
+                let is_below = high == line || line % 16 == 0 && main_side(high) == line;
+                for low in [0x00, 0x01, 0xff] {
+                    let destination = u16::from_be_bytes([high, low]);
+                    let own = high == line && low == 0;
+                    assert_eq!(coupler.is_own(false, destination), own);
+                    assert_eq!(coupler.leads_to(Side::Main, destination), is_below);
+                    assert_eq!(coupler.leads_to(Side::Sub, destination), !is_below);
+                    let down = coupler.may_pass(Side::Main, false, destination);
+                    let up = coupler.may_pass(Side::Sub, false, destination);
+                    assert_eq!((down, up), (is_below && !own, !is_below));
+                }
+            }
+        }
+    }
+
+    fn assert_individual_code_1(line: u8, destination: u16, down: bool) {
+        let sent = frame(&to_device(destination, 6));
+        let onward = forwarded(&frame(&to_device(destination, 5)));
+        let mut coupler = fitted(line, [[1, 0, 0, 0]; 2], TP1);
+        let (from_main, from_sub) = match down {
+            true => (onward, ignored()),
+            false => (ignored(), onward),
+        };
+        let at = format!("{destination:x} at {line:x}");
+        assert_eq!(coupler.take(MAIN, &sent), from_main, "{at}");
+        assert_eq!(coupler.take(SUB, &sent), from_sub, "{at}");
+    }
+
+    #[test]
+    fn individual_code_1_of_a_line_coupler() {
+        assert_individual_code_1(0x47, 0x4701, true);
+        assert_individual_code_1(0x47, 0x47ff, true);
+        for elsewhere in [0x4000, 0x4001, 0x4600, 0x4801, 0x0701, 0x5701, 0x0000] {
+            assert_individual_code_1(0x47, elsewhere, false);
+        }
+    }
+
+    #[test]
+    fn individual_code_1_of_an_area_coupler() {
+        for below in [0x4001, 0x40ff, 0x4100, 0x4712, 0x4f01] {
+            assert_individual_code_1(0x40, below, true);
+        }
+        for elsewhere in [0x0000, 0x0001, 0x0401, 0x3f01, 0x5000, 0xf401] {
+            assert_individual_code_1(0x40, elsewhere, false);
+        }
+    }
+
+    /// An error that looks right: "treating area 0 lines as if they hung below an area coupler".
+    #[test]
+    fn individual_code_1_of_lines_01_to_0f() {
+        for line in 0x01..=0x0f {
+            let device = u16::from_be_bytes([line, 0x12]);
+            assert_individual_code_1(line, device, true);
+            let other_line = u16::from_be_bytes([line % 15 + 1, 0x12]);
+            for elsewhere in [0x0000, 0x0012, other_line, device + 0x1000, 0x1012] {
+                assert_individual_code_1(line, elsewhere, false);
+            }
+        }
+    }
+
+    /// Code 2 asks for no place, neither of the destination nor of the source.
+    #[test]
+    fn open_to_individual_addresses_of_either_side() {
+        for (side, source, destination) in [
+            (MAIN, 0x4703, 0x4901),
+            (MAIN, 0x4901, 0x4703),
+            (SUB, 0x4901, 0x4703),
+            (SUB, 0x4703, 0x4901),
+        ] {
+            let sent = Meaning {
+                source,
+                ..to_device(destination, 3)
+            };
+            let answer = open(0x47, TP1).take(side, &frame(&sent));
+            assert_eq!(answer, forwarded(&frame(&counted(sent, 2))));
+        }
+    }
+
+    /// An error that looks right: "sending a frame for 4.7.0 on into line 4.7".
+    #[test]
+    fn own_address_is_never_forwarded_under_any_code() {
+        for line in [0x01, 0x0f, 0x40, 0x47, 0xff] {
+            let own = u16::from_be_bytes([line, 0x00]);
+            for code in [0, 1, 2] {
+                let codes = [[code, 2, 2, 2]; 2];
+                for count in 0..=7 {
+                    let sent = to_device(own, count);
+                    for side in [MAIN, SUB] {
+                        let answer = fitted(line, codes, TP1).take(side, &frame(&sent));
+                        assert_eq!(answer, for_itself(), "{line:x} {code} {count}");
+                    }
+                    let answer = fitted(line, codes, IP).take(SUB, &frame(&sent));
+                    assert_eq!(answer, for_itself());
+                    let answer = fitted(line, codes, IP).take(MAIN, &datagram(&sent));
+                    assert_eq!(answer, for_itself_from_ip());
+                }
+            }
+        }
+    }
+
+    #[test]
+    fn only_at_0_and_n_followed_by_00_is_the_own_address() {
+        let group = frame(&to_group(0x4700, 6));
+        let expected = forwarded(&frame(&to_group(0x4700, 5)));
+        assert_eq!(open(0x47, TP1).take(MAIN, &group), expected);
+        assert_eq!(closed(0x47, TP1).take(MAIN, &group), ignored());
+        for other in [0x4701, 0x4600, 0x4000, 0x0047, 0x0000] {
+            let device = frame(&to_device(other, 6));
+            let expected = forwarded(&frame(&to_device(other, 5)));
+            assert_eq!(open(0x47, TP1).take(SUB, &device), expected);
+            assert_eq!(closed(0x47, TP1).take(SUB, &device), ignored());
+        }
+    }
+
+    // The count.
+
+    #[test]
+    fn lowered_counts() {
+        let expected = [
+            None,
+            Some(0),
+            Some(1),
+            Some(2),
+            Some(3),
+            Some(4),
+            Some(5),
+            Some(7),
+        ];
+        assert_eq!([0, 1, 2, 3, 4, 5, 6, 7].map(lowered), expected);
+    }
+
+    /// Errors that look right: "copying the check octet after lowering the count; lowering 7 to 6".
+    #[test]
+    fn each_count_both_ways_in_both_formats_and_on_both_media() {
+        for count in 0..=7 {
+            for (format, group) in [
+                (Format::Standard, true),
+                (Format::Standard, false),
+                (Format::Extended, true),
+                (Format::Extended, false),
+            ] {
+                let sent = Meaning {
+                    format,
+                    ..to(group, 0x1234, count)
+                };
+                let (on_tp1, on_ip) = match count {
+                    0 => (vec![], vec![]),
+                    7 => (frame(&sent), datagram(&sent)),
+                    _ => {
+                        let onward = counted(sent, count - 1);
+                        (frame(&onward), datagram(&onward))
+                    }
+                };
+                let answered = |octets: &[u8]| answer(count != 0, false, octets);
+                let octets = frame(&sent);
+                assert_eq!(open(0x47, TP1).take(MAIN, &octets), answered(&on_tp1));
+                assert_eq!(open(0x47, TP1).take(SUB, &octets), answered(&on_tp1));
+                assert_eq!(open(0x47, IP).take(SUB, &octets), answered(&on_ip));
+                let from_ip = open(0x47, IP).take(MAIN, &datagram(&sent));
+                assert_eq!(from_ip, forwarded_from_ip(&on_tp1));
+            }
+        }
+    }
+
+    // The forwarded frame.
+
+    #[test]
+    fn format_priority_addresses_and_payload_are_kept() {
+        let octets: Vec<u8> = (0..=254).map(|place| place as u8 ^ 0x5a).collect();
+        let lengths = [(Format::Standard, 16), (Format::Extended, 255)];
+        for (format, most) in lengths {
+            for length in 1..=most {
+                let payload = &octets[..length];
+                let sent = Meaning {
+                    format,
+                    priority: length as u8 % 4,
+                    source: 0x1100 + length as u16,
+                    ..to(length % 3 == 0, 0x8001 - length as u16 * 0x51, 7)
+                };
+                let (frame, datagram) = (frame_with(&sent, payload), datagram_with(&sent, payload));
+                assert_eq!(open(0x47, TP1).take(MAIN, &frame), forwarded(&frame));
+                assert_eq!(open(0x47, TP1).take(SUB, &frame), forwarded(&frame));
+                assert_eq!(open(0x47, IP).take(SUB, &frame), forwarded(&datagram));
+                let from_ip = open(0x47, IP).take(MAIN, &datagram);
+                assert_eq!(from_ip, forwarded_from_ip(&frame));
+            }
+        }
+    }
+
+    /// The largest frame fits the least room, though the room asked for is larger.
+    #[test]
+    fn largest_frames_in_the_least_room() {
+        let sent = Meaning {
+            format: Format::Extended,
+            ..to_group(0x1234, 6)
+        };
+        let payload = [0x42; 255];
+        let octets = frame_with(&sent, &payload);
+        assert_eq!(octets.len(), LARGEST_FRAME);
+        for (medium, size) in [(TP1, 263), (IP, 270)] {
+            let Fitted {
+                coupler,
+                mut memory,
+                ..
+            } = open(0x11, medium);
+            let mut room = [UNTOUCHED; 272];
+            let outcome = step(&coupler, SUB, medium, &mut memory, &octets, &mut room);
+            let expected = Outcome {
+                acknowledged: true,
+                own: false,
+                forwarded: size,
+            };
+            assert_eq!(outcome, Ok(expected));
+            assert!(room[size..].iter().all(|&octet| octet == UNTOUCHED));
+            assert_eq!(memory.sub.frame(), Some(&octets[..]));
+        }
+    }
+
+    #[test]
+    fn repeat_flag_says_first_sending() {
+        for format in [Format::Standard, Format::Extended] {
+            let first = Meaning {
+                format,
+                ..to_group(0x1234, 6)
+            };
+            let (sent, onward) = (repeated(first), counted(first, 5));
+            let (on_tp1, on_ip) = (frame(&onward), datagram(&onward));
+            let octets = frame(&sent);
+            assert_eq!(open(0x47, TP1).take(MAIN, &octets), forwarded(&on_tp1));
+            assert_eq!(open(0x47, TP1).take(SUB, &octets), forwarded(&on_tp1));
+            assert_eq!(open(0x47, IP).take(SUB, &octets), forwarded(&on_ip));
+            let from_ip = open(0x47, IP).take(MAIN, &datagram(&sent));
+            assert_eq!(from_ip, forwarded_from_ip(&on_tp1));
+        }
+    }
+
+    /// Additional information ends at the coupler, and so do the bits of Ctrl1 that are not read.
+    #[test]
+    fn what_is_not_part_of_the_meaning_is_not_forwarded() {
+        let mut octets = P7;
+        octets[8] ^= 0b0101_0011;
+        assert_eq!(open(0x11, IP).take(MAIN, &octets), forwarded_from_ip(&P1));
+        let information = [0x03, 0x04, 0x01, 0xff];
+        let mut octets = [&P7[..7], &information, &P7[8..]].concat();
+        octets[5] += 3;
+        assert_eq!(open(0x11, IP).take(MAIN, &octets), forwarded_from_ip(&P1));
+    }
+
+    // Repetitions.
+
+    /// An error that looks right: "acknowledging only the first of a repeated frame".
+    #[test]
+    fn repetitions_are_acknowledged_and_not_forwarded() {
+        for (medium, side) in [(TP1, MAIN), (TP1, SUB), (IP, SUB)] {
+            for group in [true, false] {
+                let first = to(group, 0x1234, 6);
+                let onward = match medium {
+                    IP => datagram(&counted(first, 5)),
+                    _ => frame(&counted(first, 5)),
+                };
+                let (first, again) = (frame(&first), frame(&repeated(first)));
+                let mut coupler = open(0x47, medium);
+                assert_eq!(coupler.take(side, &first), forwarded(&onward));
+                assert_eq!(coupler.take(side, &again), held());
+                assert_eq!(coupler.take(side, &again), held());
+                // Marked first sending, the same frame is no repetition.
+                assert_eq!(coupler.take(side, &first), forwarded(&onward));
+                assert_eq!(coupler.take(side, &first), forwarded(&onward));
+                assert_eq!(coupler.take(side, &again), held());
+            }
+        }
+    }
+
+    /// A frame marked repeated with nothing remembered is the first that arrives.
+    #[test]
+    fn repeated_frame_may_be_the_first() {
+        let sent = to_group(0x1234, 6);
+        let onward = forwarded(&frame(&counted(sent, 5)));
+        let mut coupler = open(0x47, TP1);
+        assert_eq!(coupler.take(MAIN, &frame(&repeated(sent))), onward);
+        assert_eq!(coupler.take(MAIN, &frame(&repeated(sent))), held());
+    }
+
+    #[test]
+    fn another_source_destination_or_at_is_no_repetition() {
+        let first = to_group(0x1234, 6);
+        let others = [
+            Meaning {
+                source: first.source ^ 0x0100,
+                ..first
+            },
+            Meaning {
+                source: first.source ^ 0x0001,
+                ..first
+            },
+            to_group(0x1235, 6),
+            to_group(0x9234, 6),
+            to_device(0x1234, 6),
+            Meaning {
+                source: first.destination,
+                ..to_group(first.source, 6)
+            },
+        ];
+        for format in [Format::Standard, Format::Extended] {
+            for other in others {
+                let other = Meaning { format, ..other };
+                let onward = forwarded(&frame(&counted(other, 5)));
+                let mut coupler = open(0x47, TP1);
+                coupler.take(MAIN, &frame(&first)).unwrap();
+                assert_eq!(coupler.take(MAIN, &frame(&repeated(other))), onward);
+                assert_eq!(coupler.take(MAIN, &frame(&repeated(other))), held());
+            }
+        }
+    }
+
+    /// Only source, destination and AT are compared.
+    #[test]
+    fn repetition_of_another_format_priority_count_or_payload() {
+        let first = to_group(0x1234, 6);
+        let extended = Meaning {
+            format: Format::Extended,
+            ..first
+        };
+        let urgent = Meaning {
+            priority: 0b10,
+            ..first
+        };
+        let octets = frame_with(&repeated(first), &[0x00, 0x80, 0x0c]);
+        for (before, again) in [
+            (first, frame(&repeated(extended))),
+            (extended, frame(&repeated(first))),
+            (extended, frame(&repeated(extended))),
+            (first, frame(&repeated(urgent))),
+            (first, frame(&repeated(counted(first, 7)))),
+            (first, frame(&repeated(counted(first, 1)))),
+            (first, octets),
+        ] {
+            let mut coupler = open(0x47, TP1);
+            coupler.take(SUB, &frame(&before)).unwrap();
+            assert_eq!(coupler.take(SUB, &again), held());
+        }
+    }
+
+    /// "Afterwards the accepted frame is the remembered one", whatever became of it.
+    #[test]
+    fn every_accepted_frame_is_remembered() {
+        let sent = to_group(0x1234, 6);
+        let mut coupler = open(0x47, TP1);
+        let count_0 = frame(&counted(sent, 0));
+        assert_eq!(coupler.take(MAIN, &count_0), ignored());
+        assert_eq!(coupler.memory.main.frame(), Some(&count_0[..]));
+        assert_eq!(coupler.take(MAIN, &frame(&repeated(sent))), held());
+
+        let mut coupler = fitted(0x47, [[1, 0, 0, 0]; 2], TP1);
+        let elsewhere = to_device(0x4801, 6);
+        assert_eq!(coupler.take(MAIN, &frame(&elsewhere)), ignored());
+        coupler.coupler.codes = [[2; 4]; 2];
+        assert_eq!(coupler.take(MAIN, &frame(&repeated(elsewhere))), held());
+
+        let own = frame(&to_device(0x4700, 6));
+        assert_eq!(coupler.take(MAIN, &own), for_itself());
+        assert_eq!(coupler.memory.main.frame(), Some(&own[..]));
+    }
+
+    #[test]
+    fn only_the_last_frame_is_remembered() {
+        let (one, two) = (to_group(0x1234, 6), to_group(0x4321, 6));
+        let mut coupler = open(0x47, TP1);
+        coupler.take(MAIN, &frame(&one)).unwrap();
+        coupler.take(MAIN, &frame(&two)).unwrap();
+        let onward = forwarded(&frame(&counted(one, 5)));
+        assert_eq!(coupler.take(MAIN, &frame(&repeated(one))), onward);
+        let onward = forwarded(&frame(&counted(two, 5)));
+        assert_eq!(coupler.take(MAIN, &frame(&repeated(two))), onward);
+
+        // A frame for the coupler itself comes between as any other does.
+        coupler.take(MAIN, &frame(&to_device(0x4700, 6))).unwrap();
+        assert_eq!(coupler.take(MAIN, &frame(&repeated(two))), onward);
+    }
+
+    #[test]
+    fn repetition_is_the_remembered_one() {
+        let sent = to_group(0x1234, 6);
+        let mut coupler = open(0x47, TP1);
+        let first = frame(&sent);
+        coupler.take(SUB, &first).unwrap();
+        assert_eq!(coupler.memory.sub.frame(), Some(&first[..]));
+        let again = frame(&repeated(counted(sent, 2)));
+        assert_eq!(coupler.take(SUB, &again), held());
+        assert_eq!(coupler.memory.sub.frame(), Some(&again[..]));
+        assert_eq!(coupler.memory.main.frame(), None);
+    }
+
+    #[test]
+    fn repetition_that_address_codes_or_count_stop_is_not_acknowledged() {
+        let sent = to_group(0x1234, 6);
+        let mut coupler = open(0x47, TP1);
+        coupler.take(MAIN, &frame(&sent)).unwrap();
+        let count_0 = frame(&repeated(counted(sent, 0)));
+        assert_eq!(coupler.take(MAIN, &count_0), ignored());
+        coupler.coupler.codes[0] = [2, 2, 0, 2];
+        assert_eq!(coupler.take(MAIN, &frame(&repeated(sent))), ignored());
+        coupler.coupler.codes[0] = [2, 2, 2, 0];
+        assert_eq!(coupler.take(MAIN, &frame(&repeated(sent))), held());
+    }
+
+    #[test]
+    fn own_repetition_is_for_itself_again() {
+        for side in [MAIN, SUB] {
+            let sent = to_device(0x4700, 3);
+            let mut coupler = open(0x47, TP1);
+            assert_eq!(coupler.take(side, &frame(&sent)), for_itself());
+            for count in 0..=7 {
+                let again = frame(&repeated(counted(sent, count)));
+                assert_eq!(coupler.take(side, &again), for_itself());
+            }
+        }
+    }
+
+    #[test]
+    fn each_side_remembers_for_itself() {
+        let sent = to_group(0x1234, 6);
+        let onward = forwarded(&frame(&counted(sent, 5)));
+        let mut coupler = open(0x47, TP1);
+        assert_eq!(coupler.take(MAIN, &frame(&sent)), onward);
+        assert_eq!(coupler.take(SUB, &frame(&repeated(sent))), onward);
+        assert_eq!(coupler.take(MAIN, &frame(&repeated(sent))), held());
+        let other = to_group(0x4321, 6);
+        coupler.take(SUB, &frame(&other)).unwrap();
+        assert_eq!(coupler.take(MAIN, &frame(&repeated(sent))), held());
+    }
+
+    // IP.
+
+    /// "IP has neither memory nor acknowledgement."
+    #[test]
+    fn nothing_from_ip_is_a_repetition() {
+        let sent = to_group(0x1234, 6);
+        let onward = forwarded_from_ip(&frame(&counted(sent, 5)));
+        let mut coupler = open(0x47, IP);
+        for _ in 0..3 {
+            assert_eq!(coupler.take(MAIN, &datagram(&sent)), onward);
+            assert_eq!(coupler.take(MAIN, &datagram(&repeated(sent))), onward);
+        }
+        assert_eq!(coupler.memory.main.frame(), None);
+        assert_eq!(coupler.memory.sub.frame(), None);
+        let own = datagram(&repeated(to_device(0x4700, 6)));
+        assert_eq!(coupler.take(MAIN, &own), for_itself_from_ip());
+        assert_eq!(closed(0x47, IP).take(MAIN, &datagram(&sent)), ignored());
+    }
+
+    /// What the main side remembers from its time on TP1 outlasts frames from IP.
+    #[test]
+    fn main_memory_is_untouched_by_ip() {
+        let (one, two) = (to_group(0x1234, 6), to_group(0x4321, 6));
+        let mut coupler = open(0x47, TP1);
+        coupler.take(MAIN, &frame(&one)).unwrap();
+        coupler.take(SUB, &frame(&two)).unwrap();
+        coupler.medium = IP;
+        for sent in [one, two] {
+            let onward = forwarded_from_ip(&frame(&counted(sent, 5)));
+            assert_eq!(coupler.take(MAIN, &datagram(&repeated(sent))), onward);
+        }
+        // The sub side has its own memory, and only that.
+        assert_eq!(coupler.take(SUB, &frame(&repeated(two))), held());
+        let onward = forwarded(&datagram(&counted(one, 5)));
+        assert_eq!(coupler.take(SUB, &frame(&repeated(one))), onward);
+        coupler.medium = TP1;
+        assert_eq!(coupler.take(MAIN, &frame(&repeated(one))), held());
+    }
+
+    // What is remembered.
+
+    #[test]
+    fn nothing_is_remembered_at_the_start() {
+        let Memory { main, sub } = Memory::default();
+        assert_eq!((main.size, sub.size), (0, 0));
+        assert_eq!(main.octets, [0; 263]);
+        assert_eq!(sub.octets, [0; 263]);
+        assert_eq!((main.frame(), sub.frame()), (None, None));
+    }
+
+    #[test]
+    fn octets_behind_the_remembered_frame_stay() {
+        let sent = to_group(0x1234, 6);
+        let (long, short) = (frame_with(&sent, &[0x77; 16]), frame(&sent));
+        let mut coupler = open(0x47, TP1);
+        coupler.take(SUB, &long).unwrap();
+        coupler.take(SUB, &short).unwrap();
+        let Remembered { size, octets } = &coupler.memory.sub;
+        assert_eq!(*size, short.len());
+        let (front, behind) = octets.split_at(short.len());
+        let (old, unused) = behind.split_at(long.len() - short.len());
+        assert_eq!(front, short);
+        assert_eq!(old, &long[short.len()..]);
+        assert!(unused.iter().all(|&octet| octet == 0xa2));
+    }
+
+    #[test]
+    fn size_0_or_above_the_largest_is_no_frame() {
+        let sent = to_group(0x1234, 6);
+        let octets = frame(&sent);
+        let mut coupler = open(0x47, TP1);
+        coupler.take(MAIN, &octets).unwrap();
+        let onward = forwarded(&frame(&counted(sent, 5)));
+        for size in [0, 264, 265, 65535, usize::MAX] {
+            let mut coupler = coupler.clone();
+            coupler.memory.main.size = size;
+            assert_eq!(coupler.memory.main.frame(), None);
+            assert_eq!(coupler.take(MAIN, &frame(&repeated(sent))), onward);
+            assert_eq!(coupler.memory.main.size, octets.len());
+            assert_eq!(coupler.take(MAIN, &frame(&repeated(sent))), held());
+        }
+        coupler.memory.main.size = 263;
+        assert_eq!(coupler.memory.main.frame().map(<[u8]>::len), Some(263));
+    }
+
+    // Refusals.
+
+    /// The refusal by a room of this size; neither room nor memory may change.
+    #[track_caller]
+    fn refusal(at: &Fitted<'_>, side: u8, room: usize, octets: &[u8]) -> u8 {
+        let mut lent = [UNTOUCHED; 300];
+        let mut memory = at.memory.clone();
+        let room = &mut lent[..room];
+        let outcome = step(&at.coupler, side, at.medium, &mut memory, octets, room);
+        if outcome.is_err() {
+            assert_eq!(lent, [UNTOUCHED; 300]);
+            assert!(memory == at.memory, "memory");
+        }
+        outcome.err().unwrap_or(0)
     }
 
     #[test]
     fn order_of_refusals() {
-        let fine = coupler(0x11, [2; 4]);
-        let without_table = coupler(0x11, [2, 2, 1, 2]);
-        assert_eq!(refused(&coupler(0x00, [2, 2, 1, 2]), [2, 2], &[], 0), 15);
-        assert_eq!(refused(&coupler(0x11, [2, 1, 2, 1]), [2, 2], &[], 0), 15);
-        assert_eq!(refused(&coupler(0x11, [3, 2, 2, 2]), [0, 0], &P1, 300), 15);
-        assert_eq!(refused(&without_table, [2, 2], &[], 0), 18);
-        assert_eq!(refused(&fine, [2, 0], &[], 0), 14);
-        assert_eq!(refused(&fine, [1, 2], &[], 0), 14);
-        assert_eq!(refused(&fine, [0, 0], &[], 271), 13);
-        assert_eq!(refused(&fine, [0, 0], &[], 272), 1);
-        assert_eq!(refused(&fine, [0, 0], &P7, 300), 2);
-        assert_eq!(refused(&fine, [0, 1], &P1, 300), 10);
-        assert_eq!(refused(&fine, [1, 1], &P7, 300), 2);
+        let mut wrong = fitted(0x00, [[2, 1, 1, 2]; 2], 2);
+        let sent = to_group(0x1234, 6);
+        wrong.memory.main.remember(&frame(&sent));
+        assert_eq!(refusal(&wrong, 2, 0, &[]), 15);
+        wrong.coupler.line = 0x47;
+        assert_eq!(refusal(&wrong, 2, 0, &[]), 15);
+        wrong.coupler.codes[0][1] = 2;
+        assert_eq!(refusal(&wrong, 2, 0, &[]), 15);
+        wrong.coupler.codes[1][1] = 2;
+        assert_eq!(refusal(&wrong, 2, 0, &[]), 18);
+        wrong.coupler.codes[0][2] = 2;
+        assert_eq!(refusal(&wrong, 2, 0, &[]), 18);
+        wrong.coupler.codes[1][2] = 2;
+        assert_eq!(refusal(&wrong, 2, 0, &[]), 14);
+        assert_eq!(refusal(&wrong, MAIN, 0, &[]), 14);
+        wrong.medium = TP1;
+        assert_eq!(refusal(&wrong, 2, 0, &[]), 14);
+        assert_eq!(refusal(&wrong, MAIN, 0, &[]), 13);
+        assert_eq!(refusal(&wrong, MAIN, 271, &[]), 13);
+        assert_eq!(refusal(&wrong, MAIN, 272, &[]), 1);
+        assert_eq!(refusal(&wrong, MAIN, 272, &P1), 0);
     }
 
     #[test]
-    fn sizes_of_the_filter_table() {
-        let number = |codes, length| {
-            let table = vec![0xff; length];
-            let coupler = Coupler {
-                line: 0x11,
-                codes,
-                table: &table,
-            };
-            let mut room = [0; ROOM_SIZE];
-            let outcome = step(&coupler, MAIN, TP1, &mut Memory::default(), &P1, &mut room);
-            outcome.err().unwrap_or(0)
-        };
-        for codes in [[[0, 0, 0, 0], [0, 0, 0, 1]], [[0, 0, 1, 0], [0, 0, 0, 0]]] {
-            assert_eq!(
-                [0, 8191, 8192, 8193].map(|n| number(codes, n)),
-                [18, 18, 0, 18]
-            );
+    fn sides_and_media_outside_their_ranges() {
+        for number in 0..=255 {
+            for other in [0, 1] {
+                let sides = refusal(&open(0x47, other), number, 272, &[]);
+                let media = refusal(&open(0x47, number), other, 272, &[]);
+                let expected = if number > 1 { 14 } else { 1 };
+                assert_eq!((sides, media), (expected, expected), "{number}");
+            }
         }
-        let without = [[1, 2, 0, 2], [1, 0, 2, 0]];
-        assert_eq!(
-            [0, 8191, 8192, 8193].map(|n| number(without, n)),
-            [0, 18, 0, 18]
-        );
+    }
+
+    /// Also where nothing is forwarded, or few octets are.
+    #[test]
+    fn room_below_272() {
+        let own = frame(&to_device(0x4700, 0));
+        for fitted in [open(0x47, TP1), closed(0x47, TP1), open(0x47, IP)] {
+            for octets in [&own[..], &P1, &[]] {
+                for room in [0, 1, 12, 263, 270, 271] {
+                    assert_eq!(refusal(&fitted, SUB, room, octets), 13);
+                }
+                let expected = if octets.is_empty() { 1 } else { 0 };
+                assert_eq!(refusal(&fitted, SUB, 272, octets), expected);
+                assert_eq!(refusal(&fitted, SUB, 300, octets), expected);
+            }
+        }
+    }
+
+    /// The reader is TP1's on each TP1 side.
+    #[test]
+    fn refusals_of_the_tp1_reader() {
+        let wrong_check = [&P1[..11], &[0xe4]].concat();
+        let left = [&P1[..], &[0x00]].concat();
+        let telegrams: [(&[u8], u8); 9] = [
+            (&[], 1),
+            (&[0xcc], 2),
+            (&[0x34, 0xe1, 0xaf, 0xfe, 0x00, 0x00, 0x00], 3),
+            (&[0x34, 0x60, 0xaf, 0xfe, 0xff, 0x00, 0xff], 4),
+            (&P1[..11], 1),
+            (&left, 5),
+            (&wrong_check, 6),
+            (&P7, 2),
+            (&P1, 0),
+        ];
+        for (octets, expected) in telegrams {
+            assert_eq!(refusal(&open(0x47, TP1), MAIN, 272, octets), expected);
+            assert_eq!(refusal(&closed(0x47, TP1), SUB, 272, octets), expected);
+            assert_eq!(refusal(&open(0x47, IP), SUB, 272, octets), expected);
+        }
+    }
+
+    /// The reader is routing's on an IP main side.
+    #[test]
+    fn refusals_of_the_routing_reader() {
+        let with = |place: usize, octet| {
+            let mut octets = P7;
+            octets[place] = octet;
+            octets
+        };
+        let telegrams: [(&[u8], u8); 11] = [
+            (&[], 1),
+            (&P1, 10),
+            (&with(1, 0x11), 10),
+            (&with(3, 0x31), 11),
+            (&with(5, 0x13), 12),
+            (&with(6, 0x11), 7),
+            (&with(6, 0x2e), 7),
+            (&with(7, 0xff), 8),
+            (&with(9, 0xc1), 3),
+            (&with(14, 0x10), 9),
+            (&P7, 0),
+        ];
+        for (octets, expected) in telegrams {
+            assert_eq!(refusal(&open(0x47, IP), MAIN, 272, octets), expected);
+            assert_eq!(refusal(&closed(0x47, IP), MAIN, 272, octets), expected);
+        }
+    }
+
+    /// "A refusal returns its number and no frame; .. nothing remembered changes."
+    #[test]
+    fn repetition_across_refused_calls() {
+        let sent = to_group(0x1234, 6);
+        let (first, again) = (frame(&sent), frame(&repeated(sent)));
+        let other = frame(&to_group(0x4321, 6));
+        let mut broken = other.clone();
+        broken[7] ^= 1;
+        let mut coupler = open(0x47, TP1);
+        coupler.take(MAIN, &first).unwrap();
+        assert_eq!(coupler.take(MAIN, &broken), Err(6));
+        assert_eq!(coupler.take(MAIN, &[0xcc]), Err(2));
+        assert_eq!(coupler.take(2, &other), Err(14));
+        coupler.coupler.line = 0x00;
+        assert_eq!(coupler.take(MAIN, &other), Err(15));
+        coupler.coupler.line = 0x47;
+        coupler.coupler.table = &[0xff];
+        assert_eq!(coupler.take(MAIN, &other), Err(18));
+        coupler.coupler.table = &[];
+        assert_eq!(refusal(&coupler, MAIN, 271, &other), 13);
+        assert_eq!(coupler.take(MAIN, &again), held());
     }
 }
