@@ -54,7 +54,7 @@ some-octets k m p = go (toIp k)
     go true e = omega (arith, length-routing (indication (forwardedMeaning m)) p)
     go false e = omega (arith, length-octets (forwardedMeaning m) p)
 
-forwardable-iff : (k : Setting) (remembered : List ℕ) (m : Meaning) → isForwarded k (repeats k remembered m) m ≡ true ↔ Forwardable k remembered m
+pub forwardable-iff : (k : Setting) (remembered : List ℕ) (m : Meaning) → isForwarded k (repeats k remembered m) m ≡ true ↔ Forwardable k remembered m
 forwardable-iff k remembered m = (
   (λ e.
       let a = and-true (isAllowed k m) (not (repeats k remembered m)) e in

@@ -1,7 +1,7 @@
 -- One coupler step: document 01, "The coupler".
 use Prim.Native.Nat.{ℕ}
 use mathlib.Core.Path.{_≡_}
-use mathlib.Core.List.{List, [], _∷_}
+use mathlib.Core.List.{List, [], _∷_, _++_}
 use mathlib.Core.Bool.{Bool, true, false, cond, not, _&&_, _||_}
 use lib.ListN.{length}
 use lib.Dec.{ltb, eqb}
@@ -14,12 +14,12 @@ use Rattle.frame.specs.Order.{Test, _gives_, Verdict, pass, refuse, firstOf}
 use Rattle.tp1.specs.declared.Tp1Answer.{Tp1Answer}
 use Rattle.tp1.specs.declared.Tp1Answer.the-variants.{Frame, Refused}
 use Rattle.tp1.specs.Layout.{tp1Octets}
-use Rattle.tp1.specs.Reading.{readTp1, payloadIn}
+use Rattle.tp1.specs.Reading.{tp1Tests, readTp1, payloadIn}
 use Rattle.cemi.specs.declared.Message.{Message}
 use Rattle.cemi.specs.declared.CemiAnswer.{CemiAnswer}
 use Rattle.cemi.specs.declared.CemiAnswer.the-variants.{Frame as Message-is, Refused as Message-not}
 use Rattle.routing.specs.Layout.{routingOctets}
-use Rattle.routing.specs.Reading.{readRouting, routedPayload}
+use Rattle.routing.specs.Reading.{routingTests, readRouting, routedPayload}
 use Rattle.coupler.specs.declared.Acknowledgement.{Acknowledgement}
 use Rattle.coupler.specs.declared.Acknowledgement.the-variants.{Silence, Acknowledged}
 use Rattle.coupler.specs.declared.Outcome.{Outcome}
@@ -78,6 +78,15 @@ heardIp (Message-not r) s = nothing r
 abbrev pub readBy : Bool → List ℕ → Heard
 readBy true s = heardIp (readRouting s) s
 readBy false s = heardTp1 (readTp1 s) s
+
+-- the reader's order, whichever medium octets came by
+abbrev pub readerTests : Bool → List ℕ → List Test
+readerTests true s = routingTests s
+readerTests false s = tp1Tests s
+
+-- the whole order of a step: the settings' tests, "then the reader's"
+abbrev pub stepTests : Setting → List ℕ → ℕ → List Test
+stepTests k s room = settingTests k room ++ readerTests (fromIp k) s
 
 -- the settings' refusals, "then the reader's"
 abbrev pub after : Verdict → Heard → Heard

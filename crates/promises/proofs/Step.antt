@@ -1,71 +1,244 @@
--- The coupler's step: of demand 1 which answer or refusal it ends with, and what a refusal leaves; of demand 2 "A coupler forwards exactly if
--- address, settings and hop count allow it and the frame is no repetition", what it forwards, acknowledges and remembers.
+-- The coupler's step, of every outcome, memory and room that its contract allows. Of demand 1: it ends with what an accepted frame draws, or
+-- with the first refusal of the settings' and the reader's one order. Of demand 2: "A coupler forwards exactly if address, settings and hop
+-- count allow it and the frame is no repetition."
 use Prim.Native.Nat.{ℕ}
-use mathlib.Core.Bool.{Bool, true, false, _||_}
-use mathlib.Core.List.{List}
-use mathlib.Core.Path.{_≡_, refl, ap, _∙_}
-use lib.ListN.{length, take, drop}
+use mathlib.Core.Bool.{Bool, true, false, cond, not, _&&_, _||_}
+use mathlib.Core.List.{List, []}
+use mathlib.Core.Logic.{_↔_}
+use mathlib.Core.Path.{_≡_, refl, sym, ap, _∙_, subst, transport}
+use native.Mathlib.Omega.{arith}
+use lib.ListN.{length}
+use borrow.Author.Tests.{eqb-false}
+use Rattle.coupler.proofs.Promised.{Forwardable, forwardable-iff, forwarded-iff, acknowledged-iff, remembers-main, remembers-sub, sent-reads-tp1, sent-reads-ip}
+use Rattle.coupler.proofs.Refusals.{number-iff}
+use Rattle.coupler.proofs.StepLaws.{heard-size, did-one}
+use Rattle.coupler.specs.Answers.{acknowledgementNumber}
 use Rattle.coupler.specs.Memory.{recalled, sideOf, rememberedOn}
-use Rattle.coupler.specs.Step.{Setting, settingTests, fromIp, Heard, readBy, after, heard, outcomeOf, sent, memoryAfter, Did, frame, nothing, isAllowed, forwardedOctets}
+use Rattle.coupler.specs.Passing.{isOwn, mayPass}
+use Rattle.coupler.specs.Step.{Setting, stepTests, fromIp, Heard, frame, nothing, heard, isAllowed, repeats, isForwarded, acknowledgementBy, forwardedOctets, acceptedOutcome, outcomeOf, sent, memoryAfter, HandedOn, Did}
+use Rattle.coupler.specs.declared.Acknowledgement.the-variants.{Silence, Acknowledged}
+use Rattle.coupler.specs.declared.Acknowledgement.{Acknowledgement}
 use Rattle.coupler.specs.declared.Memory.{Memory}
 use Rattle.coupler.specs.declared.Outcome.{Outcome}
-use Rattle.frame.specs.Order.{Verdict, firstOf, pass, refuse}
-use Rattle.octets.specs.Room.{over}
-use Rattle.frame.proofs.Order.{passed-iff, refused-iff as order-iff}
-use mathlib.Core.Logic.{_↔_}
-use lib.Seq.{take-at}
-use Rattle.coupler.proofs.Promised.{Forwardable, Forwards, forwarded-iff, sent-is, acknowledged-iff}
-use Rattle.coupler.specs.Passing.{isOwn, mayPass}
-use Rattle.coupler.specs.declared.Acknowledgement.the-variants.{Acknowledged}
+use Rattle.frame.proofs.Numbers.{refused-number}
+use Rattle.frame.specs.Order.{FirstIs}
+use Rattle.frame.specs.Refusals.{number}
 use Rattle.frame.specs.declared.Meaning.{Meaning}
-use Rattle.promises.proofs.Ends.{Ends, answers, refuses}
+use Rattle.frame.specs.declared.Refusal.{Refusal}
+use Rattle.octets.specs.Octets.{Octets}
+use Rattle.octets.specs.Room.{over}
+use Rattle.promises.proofs.Heard.{Hears, hears-iff, refuses-iff}
 
--- the step: the settings' refusals, "then the reader's"
-pub step-ends : (k : Setting) (s : List ℕ) (room : ℕ) → Ends nothing (readBy (fromIp k) s) (settingTests k room) (heard k s room)
-unfolding heard
-step-ends k s room = go (firstOf (settingTests k room)) refl
-  where
-    go : (v : Verdict) → firstOf (settingTests k room) ≡ v → Ends nothing (readBy (fromIp k) s) (settingTests k room) (heard k s room)
-    go pass e = answers (passed-iff (settingTests k room) .0 e) (ap (λ v. after v (readBy (fromIp k) s)) e)
-    go (refuse r) e = refuses r (order-iff (settingTests k room) r .0 e) (ap (λ v. after v (readBy (fromIp k) s)) e)
+-- the frame that the receiving side remembers
+abbrev pub rememberedBy : Setting → Memory → List ℕ
+rememberedBy k m = recalled (sideOf m (k .side))
 
-pub step-refused : (k : Setting) (m m′ : Memory) (s room room′ : List ℕ) (o : Outcome) → Did k m s room o m′ room′ → (o .number ≡ 0 → ⊥) → (m′ ≡ m) × (room′ ≡ room)
-step-refused k m m′ s room room′ o d n = go (heard k s (length room)) refl
-  where
-    go : (h : Heard) → heard k s (length room) ≡ h → (m′ ≡ m) × (room′ ≡ room)
-    go (frame x p) e = absurd (n (ap (λ (u : Outcome). u .number) (d .handed .outcome ∙ ap (outcomeOf k (recalled (sideOf m (k .side)))) e)))
-    go (nothing r) e = (d .memory ∙ ap (memoryAfter k m s) e, d .handed .left ∙ ap (λ (h : Heard). over (sent k (recalled (sideOf m (k .side))) h) room) e)
+-- what earns CCh: "A TP1 frame gets CCh exactly if it is for the coupler itself or, repetition or not, its address, codes and count allow
+-- forwarding"
+pub record Earns (k : Setting) (x : Meaning) : Type 0 where
+  pub on-tp1 : fromIp k ≡ false
+  pub addressed : isOwn (k .line) (x .group) (x .destination) || isAllowed k x ≡ true
 
--- the step, of every outcome that its contract allows
+-- what an accepted frame draws
+pub record Draws (k : Setting) (m : Memory) (s room : List ℕ) (x : Meaning) (p : List ℕ) (o : Outcome) (m′ : Memory) (room′ : List ℕ) : Type 0 where
+  pub accepted : o .number ≡ 0
+  -- CCh where it is earned, "otherwise no acknowledgement"
+  pub acknowledged : Earns k x → acknowledgementNumber (o .acknowledgement) ≡ 0xCC
+  pub silent : (Earns k x → ⊥) → acknowledgementNumber (o .acknowledgement) ≡ 0
+  -- "A frame with AT 0 to the coupler's own address is for itself"
+  pub itself : o .own ≡ isOwn (k .line) (x .group) (x .destination)
+  -- "Forwarded octets are the first of the lent room; those behind them stay."
+  pub forwards : Forwardable k (rememberedBy k m) x → (o .forwarded ≡ length (forwardedOctets k x p)) × (room′ ≡ over (forwardedOctets k x p) room)
+  pub stops : (Forwardable k (rememberedBy k m) x → ⊥) → (o .forwarded ≡ 0) × (room′ ≡ room)
+  -- "Afterwards the accepted frame is the remembered one."; "IP has neither memory nor acknowledgement."
+  pub remembers : fromIp k ≡ false → m′ ≡ rememberedOn m (k .side) s
+  pub forgets-nothing : fromIp k ≡ true → m′ ≡ m
 
-module _ (k : Setting) (m m′ : Memory) (s room room′ : List ℕ) (o : Outcome) (d : Did k m s room o m′ room′) where
-  abbrev remembered : List ℕ
-  remembered = recalled (sideOf m (k .side))
+-- "On a refusal: its number, none, not, 0."; "nothing lent is written, nothing remembered changes"
+pub record Refuses (m : Memory) (room : List ℕ) (r : Refusal) (o : Outcome) (m′ : Memory) (room′ : List ℕ) : Type 0 where
+  pub numbered : o .number ≡ number r
+  pub silent : acknowledgementNumber (o .acknowledgement) ≡ 0
+  pub not-itself : o .own ≡ false
+  pub sends-nothing : o .forwarded ≡ 0
+  pub remembers-as-before : m′ ≡ m
+  pub writes-nothing : room′ ≡ room
 
-  -- octets are forwarded exactly if the frame is accepted, address and settings let it pass, the count is not 0, and it is no repetition
-  pub forwards-exactly : (o .forwarded ≡ 0 → ⊥) ↔ Forwards k remembered (heard k s (length room))
-  forwards-exactly = rw (d .handed .outcome) (forwarded-iff k remembered (heard k s (length room)))
+-- how a step ends: either way, and no other
+pub data Ends (k : Setting) (m : Memory) (s room : List ℕ) (o : Outcome) (m′ : Memory) (room′ : List ℕ) : Type 0 where
+  accepts : (x : Meaning) (p : List ℕ) → Hears k s (length room) x p → Draws k m s room x p o m′ room′ → Ends k m s room o m′ room′
+  refuses : (r : Refusal) → FirstIs (stepTests k s (length room)) r → Refuses m room r o m′ room′ → Ends k m s room o m′ room′
 
-  -- what is forwarded: the layout, on the medium that it goes out by, of the same meaning with first sending and the count by the hop rule
-  pub forwards-the-frame : (x : Meaning) (p : List ℕ) → heard k s (length room) ≡ frame x p → Forwardable k remembered x → take (o .forwarded) room′ ≡ forwardedOctets k x p
-  forwards-the-frame x p e l =
-      let n : o .forwarded ≡ length (forwardedOctets k x p) =
-      ap (λ (u : Outcome). u .forwarded) (d .handed .outcome ∙ ap (outcomeOf k remembered) e) ∙ ap length (sent-is k remembered x p l) in
-      let r : room′ ≡ over (forwardedOctets k x p) room =
-      d .handed .left ∙ ap (λ (h : Heard). over (sent k remembered h) room) e ∙ ap (λ (l : List ℕ). over l room) (sent-is k remembered x p l) in
-      rw (n, r) (take-at (forwardedOctets k x p) (drop (length (forwardedOctets k x p)) room) (length (forwardedOctets k x p)) refl)
+acknowledgement-one : (a b : Acknowledgement) → acknowledgementNumber a ≡ acknowledgementNumber b → a ≡ b
+acknowledgement-one Silence Silence e = refl
+acknowledgement-one Silence Acknowledged e = absurd (omega arith)
+acknowledgement-one Acknowledged Silence e = absurd (omega arith)
+acknowledgement-one Acknowledged Acknowledged e = refl
 
-  -- "A TP1 frame gets CCh exactly if it is for the coupler itself or, repetition or not, its address, codes and count allow forwarding"
-  pub acknowledges-exactly : (x : Meaning) (p : List ℕ) → heard k s (length room) ≡ frame x p
-      → o .acknowledgement ≡ Acknowledged ↔ ((fromIp k ≡ false) × (isOwn (k .line) (x .group) (x .destination) || isAllowed k x ≡ true))
-  acknowledges-exactly x p e = rw (d .handed .outcome, e) (acknowledged-iff k remembered x p)
+heard-apart : {A : Type 0} {x : Meaning} {p : List ℕ} {r : Refusal} → nothing r ≡ frame x p → A
+heard-apart e = let z : _≡_ {A = ℕ} 0 1 = cc in absurd (omega arith)
 
-  -- "Afterwards the accepted frame is the remembered one."
-  pub remembers-the-frame : (x : Meaning) (p : List ℕ) → heard k s (length room) ≡ frame x p → fromIp k ≡ false → m′ ≡ rememberedOn m (k .side) s
-  remembers-the-frame x p e f = d .memory ∙ ap (memoryAfter k m s) e ∙ rw f refl
+bool-apart : {A : Type 0} → false ≡ true → A
+bool-apart e = let z : _≡_ {A = ℕ} 0 1 = cc in absurd (omega arith)
 
--- a frame for the coupler itself never passes, under any code
-pub own-never-passes : (line : ℕ) (codes : List (List ℕ)) (table : List ℕ) (direction : ℕ) (group : Bool) (destination : ℕ)
-    → isOwn line group destination ≡ true → mayPass line codes table direction group destination ≡ false
-unfolding mayPass
-own-never-passes line codes table direction group destination e = rw e refl
+module _ (k : Setting) (m : Memory) (s room : List ℕ) where
+  -- what a frame draws by the definition
+  drawn : (x : Meaning) (p : List ℕ) → Draws k m s room x p (outcomeOf k (rememberedBy k m) (frame x p)) (memoryAfter k m s (frame x p)) (over (sent k (rememberedBy k m) (frame x p)) room)
+  unfolding acknowledgementBy
+  drawn x p = record {
+    accepted = refl;
+    acknowledged = λ e. rw (e .on-tp1, e .addressed) refl;
+    silent = λ n. quiet (fromIp k) (isOwn (k .line) (x .group) (x .destination) || isAllowed k x) refl refl n;
+    itself = refl;
+    forwards = λ f. let e = forwardable-iff k (rememberedBy k m) x .1 f in (rw e refl, rw e refl);
+    stops = λ n. unsent (isForwarded k (repeats k (rememberedBy k m) x) x) refl n;
+    remembers = λ e. rw e refl;
+    forgets-nothing = λ e. rw e refl;
+  }
+    where
+      quiet : (ip b : Bool) → fromIp k ≡ ip → isOwn (k .line) (x .group) (x .destination) || isAllowed k x ≡ b → (Earns k x → ⊥) → acknowledgementNumber (cond (not ip && b) Acknowledged Silence) ≡ 0
+      quiet true b e f n = refl
+      quiet false true e f n = absurd (n (record { on-tp1 = e; addressed = f }))
+      quiet false false e f n = refl
+
+      unsent : (b : Bool) → isForwarded k (repeats k (rememberedBy k m) x) x ≡ b → (Forwardable k (rememberedBy k m) x → ⊥)
+          → (length (cond b (forwardedOctets k x p) []) ≡ 0) × (over (cond b (forwardedOctets k x p) []) room ≡ room)
+      unsent true e n = absurd (n (forwardable-iff k (rememberedBy k m) x .0 e))
+      unsent false e n = (refl, refl)
+
+  moved : (x : Meaning) (p : List ℕ) {o₁ o₂ : Outcome} {m₁ m₂ : Memory} {room₁ room₂ : List ℕ} → o₁ ≡ o₂ → m₁ ≡ m₂ → room₁ ≡ room₂ → Draws k m s room x p o₁ m₁ room₁ → Draws k m s room x p o₂ m₂ room₂
+  moved x p a b l = transport (λ j. Draws k m s room x p (a j) (b j) (l j))
+
+  -- every outcome that the contract allows
+  pub step-ends : (o : Outcome) (m′ : Memory) (room′ : List ℕ) → Octets s → Did k m s room o m′ room′ → Ends k m s room o m′ room′
+  step-ends o m′ room′ c d = go (heard k s (length room)) refl
+    where
+      go : (h : Heard) → heard k s (length room) ≡ h → Ends k m s room o m′ room′
+      go (frame x p) e =
+          let a : outcomeOf k (rememberedBy k m) (frame x p) ≡ o = sym (d .handed .outcome ∙ ap (outcomeOf k (rememberedBy k m)) e) in
+          let b : memoryAfter k m s (frame x p) ≡ m′ = sym (d .memory ∙ ap (memoryAfter k m s) e) in
+          let l : over (sent k (rememberedBy k m) (frame x p)) room ≡ room′ = sym (d .handed .left ∙ ap (λ (h : Heard). over (sent k (rememberedBy k m) h) room) e) in
+          accepts x p (hears-iff k s (length room) x p c .0 e) (moved x p a b l (drawn x p))
+      go (nothing r) e =
+          let a : o ≡ outcomeOf k (rememberedBy k m) (nothing r) = d .handed .outcome ∙ ap (outcomeOf k (rememberedBy k m)) e in
+          refuses r (refuses-iff k s (length room) r .0 e) (record {
+            numbered = ap (λ (u : Outcome). u .number) a;
+            silent = ap (λ (u : Outcome). acknowledgementNumber (u .acknowledgement)) a;
+            not-itself = ap (λ (u : Outcome). u .own) a;
+            sends-nothing = ap (λ (u : Outcome). u .forwarded) a;
+            remembers-as-before = d .memory ∙ ap (memoryAfter k m s) e;
+            writes-nothing = d .handed .left ∙ ap (λ (h : Heard). over (sent k (rememberedBy k m) h) room) e;
+          })
+
+  -- a frame draws one thing
+  module _ (x : Meaning) (p : List ℕ) {o₁ o₂ : Outcome} {m₁ m₂ : Memory} {room₁ room₂ : List ℕ} (a : Draws k m s room x p o₁ m₁ room₁) (b : Draws k m s room x p o₂ m₂ room₂) where
+    one-acknowledgement : acknowledgementNumber (o₁ .acknowledgement) ≡ acknowledgementNumber (o₂ .acknowledgement)
+    one-acknowledgement = go (fromIp k) (isOwn (k .line) (x .group) (x .destination) || isAllowed k x) refl refl
+      where
+        unearned : (Earns k x → ⊥) → acknowledgementNumber (o₁ .acknowledgement) ≡ acknowledgementNumber (o₂ .acknowledgement)
+        unearned n = a .silent n ∙ sym (b .silent n)
+
+        go : (ip c : Bool) → fromIp k ≡ ip → isOwn (k .line) (x .group) (x .destination) || isAllowed k x ≡ c → acknowledgementNumber (o₁ .acknowledgement) ≡ acknowledgementNumber (o₂ .acknowledgement)
+        go true c e f = unearned (λ n. bool-apart (sym (n .on-tp1) ∙ e))
+        go false true e f = let y : Earns k x = record { on-tp1 = e; addressed = f } in a .acknowledged y ∙ sym (b .acknowledged y)
+        go false false e f = unearned (λ n. bool-apart (sym f ∙ n .addressed))
+
+    one-forwarding : (o₁ .forwarded ≡ o₂ .forwarded) × (room₁ ≡ room₂)
+    one-forwarding = go (isForwarded k (repeats k (rememberedBy k m) x) x) refl
+      where
+        go : (c : Bool) → isForwarded k (repeats k (rememberedBy k m) x) x ≡ c → (o₁ .forwarded ≡ o₂ .forwarded) × (room₁ ≡ room₂)
+        go true e = let f = forwardable-iff k (rememberedBy k m) x .0 e in (a .forwards f .0 ∙ sym (b .forwards f .0), a .forwards f .1 ∙ sym (b .forwards f .1))
+        go false e =
+            let n : Forwardable k (rememberedBy k m) x → ⊥ = λ f. bool-apart (sym e ∙ forwardable-iff k (rememberedBy k m) x .1 f) in
+            (a .stops n .0 ∙ sym (b .stops n .0), a .stops n .1 ∙ sym (b .stops n .1))
+
+    one-memory : m₁ ≡ m₂
+    one-memory = go (fromIp k) refl
+      where
+        go : (ip : Bool) → fromIp k ≡ ip → m₁ ≡ m₂
+        go true e = a .forgets-nothing e ∙ sym (b .forgets-nothing e)
+        go false e = a .remembers e ∙ sym (b .remembers e)
+
+    draws-one : (o₁ ≡ o₂) × ((m₁ ≡ m₂) × (room₁ ≡ room₂))
+    draws-one =
+        let n : o₁ .number ≡ o₂ .number = a .accepted ∙ sym (b .accepted) in
+        let c : o₁ .acknowledgement ≡ o₂ .acknowledgement = acknowledgement-one _ _ one-acknowledgement in
+        let i : o₁ .own ≡ o₂ .own = a .itself ∙ sym (b .itself) in
+        ((λ j. record { number = n j; acknowledgement = c j; own = i j; forwarded = one-forwarding .0 j }), (one-memory, one-forwarding .1))
+
+  -- the statement leaves no choice: two ends of a step coincide in result, memory and room
+  pub step-one : {o₁ o₂ : Outcome} {m₁ m₂ : Memory} {room₁ room₂ : List ℕ} → Octets s → Ends k m s room o₁ m₁ room₁ → Ends k m s room o₂ m₂ room₂ → (o₁ ≡ o₂) × ((m₁ ≡ m₂) × (room₁ ≡ room₂))
+  step-one {o₁} {o₂} {m₁} {m₂} {room₁} {room₂} c (accepts x p h a) (accepts y q i b) =
+      let e : frame x p ≡ frame y q = sym (hears-iff k s (length room) x p c .1 h) ∙ hears-iff k s (length room) y q c .1 i in
+      let ex : y ≡ x = cc in
+      let ep : q ≡ p = cc in
+      draws-one x p a (subst (λ (z : Meaning). Draws k m s room z p o₂ m₂ room₂) ex (subst (λ (z : List ℕ). Draws k m s room y z o₂ m₂ room₂) ep b))
+  step-one c (accepts x p h a) (refuses r f b) = heard-apart (sym (refuses-iff k s (length room) r .1 f) ∙ hears-iff k s (length room) x p c .1 h)
+  step-one c (refuses r f a) (accepts y q i b) = heard-apart (sym (refuses-iff k s (length room) r .1 f) ∙ hears-iff k s (length room) y q c .1 i)
+  step-one {o₁} {o₂} c (refuses r f a) (refuses q g b) =
+      let e : nothing r ≡ nothing q = sym (refuses-iff k s (length room) r .1 f) ∙ refuses-iff k s (length room) q .1 g in
+      let z : r ≡ q = cc in
+      let n : o₁ .number ≡ o₂ .number = a .numbered ∙ ap number z ∙ sym (b .numbered) in
+      let l : o₁ .acknowledgement ≡ o₂ .acknowledgement = acknowledgement-one _ _ (a .silent ∙ sym (b .silent)) in
+      let i : o₁ .own ≡ o₂ .own = a .not-itself ∙ sym (b .not-itself) in
+      let w : o₁ .forwarded ≡ o₂ .forwarded = a .sends-nothing ∙ sym (b .sends-nothing) in
+      ((λ j. record { number = n j; acknowledgement = l j; own = i j; forwarded = w j }), (a .remembers-as-before ∙ sym (b .remembers-as-before), a .writes-nothing ∙ sym (b .writes-nothing)))
+
+-- a frame with these properties is heard
+pub record HearsOne (k : Setting) (s : List ℕ) (room : ℕ) (Has : Meaning → Type 0) : Type 0 where
+  pub meaning : Meaning
+  pub payload : List ℕ
+  pub hears : Hears k s room meaning payload
+  pub has : Has meaning
+
+module _ (k : Setting) (m m′ : Memory) (s room room′ : List ℕ) (o : Outcome) (c : Octets s) (d : Did k m s room o m′ room′) where
+  outcome-of : (h : Heard) → heard k s (length room) ≡ h → o ≡ outcomeOf k (rememberedBy k m) h
+  outcome-of h e = d .handed .outcome ∙ ap (outcomeOf k (rememberedBy k m)) e
+
+  frame-heard : {Has : Meaning → Type 0} (w : HearsOne k s (length room) Has) → heard k s (length room) ≡ frame (w .meaning) (w .payload)
+  frame-heard w = hears-iff k s (length room) (w .meaning) (w .payload) c .1 (w .hears)
+
+  -- octets are forwarded exactly if a frame is heard, address and settings let it pass, the count is not 0, and it is no repetition
+  pub forwards-exactly : (o .forwarded ≡ 0 → ⊥) ↔ HearsOne k s (length room) (Forwardable k (rememberedBy k m))
+  forwards-exactly = (
+    (λ n. to (heard k s (length room)) refl n),
+    (λ w z. forwarded-iff k (rememberedBy k m) (frame (w .meaning) (w .payload)) .1 (w .has) (sym (ap (λ (u : Outcome). u .forwarded) (outcome-of _ (frame-heard w))) ∙ z)),
+  )
+    where
+      to : (h : Heard) → heard k s (length room) ≡ h → (o .forwarded ≡ 0 → ⊥) → HearsOne k s (length room) (Forwardable k (rememberedBy k m))
+      to (frame x p) e n = record {
+        meaning = x;
+        payload = p;
+        hears = hears-iff k s (length room) x p c .0 e;
+        has = forwarded-iff k (rememberedBy k m) (frame x p) .0 (λ z. n (ap (λ (u : Outcome). u .forwarded) (outcome-of _ e) ∙ z));
+      }
+      to (nothing r) e n = absurd (n (ap (λ (u : Outcome). u .forwarded) (outcome-of _ e)))
+
+  -- CCh exactly if a frame is heard that earns it
+  pub acknowledges-exactly : acknowledgementNumber (o .acknowledgement) ≡ 0xCC ↔ HearsOne k s (length room) (Earns k)
+  acknowledges-exactly = (
+    (λ z. to (heard k s (length room)) refl z),
+    (λ w. ap (λ (u : Outcome). acknowledgementNumber (u .acknowledgement)) (outcome-of _ (frame-heard w)) ∙ drawn k m s room (w .meaning) (w .payload) .acknowledged (w .has)),
+  )
+    where
+      to : (h : Heard) → heard k s (length room) ≡ h → acknowledgementNumber (o .acknowledgement) ≡ 0xCC → HearsOne k s (length room) (Earns k)
+      to (frame x p) e z =
+          let a = acknowledged-iff k (rememberedBy k m) x p .0 (acknowledgement-one _ Acknowledged (sym (ap (λ (u : Outcome). acknowledgementNumber (u .acknowledgement)) (outcome-of _ e)) ∙ z)) in
+          record { meaning = x; payload = p; hears = hears-iff k s (length room) x p c .0 e; has = record { on-tp1 = a .0; addressed = a .1 } }
+      to (nothing r) e z = absurd (omega (arith, ap (λ (u : Outcome). acknowledgementNumber (u .acknowledgement)) (outcome-of _ e), z))
+
+  -- each number exactly in its listed case: 0 if a frame is heard, another if its refusal is the first of the one order
+  pub accepts-exactly : o .number ≡ 0 ↔ HearsOne k s (length room) (λ x. Unit {0})
+  accepts-exactly = (
+    (λ z. to (heard k s (length room)) refl z),
+    (λ w. ap (λ (u : Outcome). u .number) (outcome-of _ (frame-heard w))),
+  )
+    where
+      to : (h : Heard) → heard k s (length room) ≡ h → o .number ≡ 0 → HearsOne k s (length room) (λ x. Unit {0})
+      to (frame x p) e z = record { meaning = x; payload = p; hears = hears-iff k s (length room) x p c .0 e; has = tt }
+      to (nothing r) e z = absurd (eqb-false (number r) 0 (refused-number r) (sym (ap (λ (u : Outcome). u .number) (outcome-of _ e)) ∙ z))
+
+  pub refuses-exactly : (r : Refusal) → o .number ≡ number r ↔ FirstIs (stepTests k s (length room)) r
+  refuses-exactly r = (
+    (λ z. refuses-iff k s (length room) r .0 (number-iff k (rememberedBy k m) (heard k s (length room)) r .0 (sym (ap (λ (u : Outcome). u .number) (d .handed .outcome)) ∙ z))),
+    (λ f. ap (λ (u : Outcome). u .number) (outcome-of _ (refuses-iff k s (length room) r .1 f))),
+  )

@@ -7,36 +7,29 @@ use lib.ListN.{length}
 use Rattle.coupler.specs.Passing.{tableOctet, tableBit}
 use Rattle.coupler.specs.Step.{Setting, settingOf, Heard, heard, outcomeOf, sent}
 use Rattle.frame.specs.Order.{Verdict, firstOf}
-use Rattle.frame.specs.Refusals.{number}
-use Rattle.frame.specs.declared.Meaning.{Meaning}
+use Rattle.frame.specs.Answers.{Numbered, accepted, meaningValues}
 use Rattle.coupler.specs.Answers.{acknowledgementNumber}
 use Rattle.site.specs.Stores.{stores}
+use Rattle.tp1.specs.Answers.{tp1Numbered}
 use Rattle.tp1.specs.Reading.{payloadIn, readTp1}
-use Rattle.tp1.specs.declared.Tp1Answer.the-variants.{Frame, Refused}
-use Rattle.tp1.specs.declared.Tp1Answer.{Tp1Answer}
 use Rattle.tracer.specs.Listing.{Query, queryOf, forwardings}
 use Rattle.tracer.specs.Tracing.{traceTests, tracedBy, listBy}
 
--- a reader's answer in the paper's words: a meaning and a payload, or the refusal's number
-pub data Said : Type 0 where
-  accepted : Meaning → List ℕ → Said
-  refused : ℕ → Said
-
-abbrev pub said : Tp1Answer → List ℕ → Said
-said (Frame m) s = accepted m (payloadIn (Frame m) s)
-said (Refused r) s = refused (number r)
+-- a refusal in the paper's words: its number, and no values
+abbrev pub refusedBy : ℕ → Numbered
+refusedBy n = record { number = n; values = [] }
 
 -- what a coupler that remembers nothing does with octets: its acknowledgement as the paper's number (CCh, 0 for none), and the octets that it sends
 pub data Does : Type 0 where
   sends : ℕ → List ℕ → Does
 
-infix 20 tp1_is_
+infix 20 tp1_is_with_
 infix 20 _hears_and_
 infix 20 bit_is_of_
 infix 20 _on_lists_by_
 pub data Case : Type 0 where
-  -- these octets, read as a TP1 frame
-  tp1_is_ : List ℕ → Said → Case
+  -- these octets, read as a TP1 frame: number and values, and the payload handed out
+  tp1_is_with_ : List ℕ → Numbered → List ℕ → Case
   -- this coupler, given these octets
   _hears_and_ : Setting → List ℕ → Does → Case
   -- this group's bit, and the octet of the filter table
@@ -56,7 +49,7 @@ abbrev pub asked : Query → List ℕ → Verdict
 asked q site = firstOf (traceTests (stores [] []) site q 768)
 
 abbrev pub Holds : Case → Type 0
-Holds (tp1 s is a) = said (readTp1 s) s ≡ a
+Holds (tp1 s is a with p) = (tp1Numbered (readTp1 s) ≡ a) × (payloadIn (readTp1 s) s ≡ p)
 Holds (k hears s and d) = Handles k (heard k s 272) d
 Holds (bit g is b of o) = (tableBit g ≡ b) × (tableOctet g ≡ o)
 Holds (q on site lists l by n) =
@@ -69,29 +62,29 @@ Every (c ∷ cs) = Holds c × Every cs
 -- "TP1 BC 00 00 12 34 B4 00 80 56 78 9A E5 is accepted: priority bits 11, group 1234h, count 3, LG 4."
 abbrev pub P1 : Case
 P1 =
-    tp1 0xBC ∷ 0x00 ∷ 0x00 ∷ 0x12 ∷ 0x34 ∷ 0xB4 ∷ 0x00 ∷ 0x80 ∷ 0x56 ∷ 0x78 ∷ 0x9A ∷ 0xE5 ∷ [] is accepted
-    record { extended = false; first = true; priority = 3; source = 0; group = true; destination = 0x1234; count = 3 }
-    (0x00 ∷ 0x80 ∷ 0x56 ∷ 0x78 ∷ 0x9A ∷ [])
+    tp1 0xBC ∷ 0x00 ∷ 0x00 ∷ 0x12 ∷ 0x34 ∷ 0xB4 ∷ 0x00 ∷ 0x80 ∷ 0x56 ∷ 0x78 ∷ 0x9A ∷ 0xE5 ∷ [] is
+    accepted (meaningValues (record { extended = false; first = true; priority = 3; source = 0; group = true; destination = 0x1234; count = 3 }))
+    with (0x00 ∷ 0x80 ∷ 0x56 ∷ 0x78 ∷ 0x9A ∷ [])
 
 -- "the same ending E4: 6"
 abbrev pub P2 : Case
-P2 = tp1 0xBC ∷ 0x00 ∷ 0x00 ∷ 0x12 ∷ 0x34 ∷ 0xB4 ∷ 0x00 ∷ 0x80 ∷ 0x56 ∷ 0x78 ∷ 0x9A ∷ 0xE4 ∷ [] is refused 6
+P2 = tp1 0xBC ∷ 0x00 ∷ 0x00 ∷ 0x12 ∷ 0x34 ∷ 0xB4 ∷ 0x00 ∷ 0x80 ∷ 0x56 ∷ 0x78 ∷ 0x9A ∷ 0xE4 ∷ [] is refusedBy 6 with []
 
 -- "no octets: 1"
 abbrev pub P3 : Case
-P3 = tp1 [] is refused 1
+P3 = tp1 [] is refusedBy 1 with []
 
 -- "CC: 2"
 abbrev pub P4 : Case
-P4 = tp1 0xCC ∷ [] is refused 2
+P4 = tp1 0xCC ∷ [] is refusedBy 2 with []
 
 -- "34 E1 AF FE 00 00 00: 3"
 abbrev pub P5 : Case
-P5 = tp1 0x34 ∷ 0xE1 ∷ 0xAF ∷ 0xFE ∷ 0x00 ∷ 0x00 ∷ 0x00 ∷ [] is refused 3
+P5 = tp1 0x34 ∷ 0xE1 ∷ 0xAF ∷ 0xFE ∷ 0x00 ∷ 0x00 ∷ 0x00 ∷ [] is refusedBy 3 with []
 
 -- "34 60 AF FE FF 00 FF: 4"
 abbrev pub P6 : Case
-P6 = tp1 0x34 ∷ 0x60 ∷ 0xAF ∷ 0xFE ∷ 0xFF ∷ 0x00 ∷ 0xFF ∷ [] is refused 4
+P6 = tp1 0x34 ∷ 0x60 ∷ 0xAF ∷ 0xFE ∷ 0xFF ∷ 0x00 ∷ 0xFF ∷ [] is refusedBy 4 with []
 
 -- couplers with every code closed, or open for one class of addresses, in both directions
 abbrev pub closedRow : List ℕ
