@@ -1,8 +1,10 @@
 -- The step lent its memory is proved by a walk of its code, so that the toolchain reads no claim off its source: the claim is written
--- here, shown to be the whole `ensures` of the source, and determines outcome, memory and room.
+-- here, shown to be the whole `ensures` of the source, and determines outcome, memory and room. Nothing is asked of the caller: its `requires`
+-- is the empty one.
 use mathlib.Core.Path.{_≡_, refl}
 use contract.Lifetimes.{Lfts}
 use contract.Monad.{fact}
+use base.Logic.{emp}
 use denote.Ref.{now}
 use denote.Triple.Clauses.{AtExit, Lasts, atExit}
 use borrow.Fn.World.{World, ArgsD, ResD}
@@ -24,3 +26,7 @@ pub determines : (κs : Lfts 4) (a : ArgsD in-place.signature κs) (r₁ r₂ : 
 determines κs a r₁ r₂ w₁ w₂ x y =
     let e = did-one x y in
     (e .0, λ i. (e .1 .0 i, (tt, (tt, (tt, (tt, (tt, (tt, (e .1 .1 i, tt)))))))))
+
+-- nothing is asked of the caller
+pub free : (κs : Lfts 4) (a : ArgsD in-place.signature κs) (w : World) → in-place.clauses (w .𝓤) (w .H) (w .𝓖 .A) (w .𝓜 .mem) (w .𝓡 .run) κs a .requires tt ≡ emp (w .𝓤)
+free κs a w = refl

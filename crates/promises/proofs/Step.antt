@@ -1,21 +1,22 @@
 -- The coupler's step, of every outcome, memory and room that its contract allows. Of demand 1: it ends with what an accepted frame draws, or
 -- with the first refusal of the settings' and the reader's one order. Of demand 2: "A coupler forwards exactly if address, settings and hop
 -- count allow it and the frame is no repetition."
-use Prim.Native.Nat.{ℕ}
+use Prim.Native.Nat.{ℕ, _-_, _≤_, _<_}
 use mathlib.Core.Bool.{Bool, true, false, cond, not, _&&_, _||_}
 use mathlib.Core.List.{List, []}
 use mathlib.Core.Logic.{_↔_}
 use mathlib.Core.Path.{_≡_, refl, sym, ap, _∙_, subst, transport}
 use native.Mathlib.Omega.{arith}
+use lib.Dec.{ltb, eqb}
 use lib.ListN.{length}
-use borrow.Author.Tests.{eqb-false}
-use Rattle.coupler.proofs.Promised.{Forwardable, forwardable-iff, forwarded-iff, acknowledged-iff, remembers-main, remembers-sub, sent-reads-tp1, sent-reads-ip}
+use borrow.Author.Tests.{ltb-true, eqb-true, eqb-false, not-false, ne-eqb}
+use Rattle.coupler.proofs.Promised.{Forwardable, forwardable-iff, forwarded-iff, acknowledged-iff, remembers-main, remembers-sub}
 use Rattle.coupler.proofs.Refusals.{number-iff}
-use Rattle.coupler.proofs.StepLaws.{heard-size, did-one}
+use Rattle.coupler.proofs.StepLaws.{forwarded-ranged, heard-size}
 use Rattle.coupler.specs.Answers.{acknowledgementNumber}
 use Rattle.coupler.specs.Memory.{recalled, sideOf, rememberedOn}
 use Rattle.coupler.specs.Passing.{isOwn, mayPass}
-use Rattle.coupler.specs.Step.{Setting, stepTests, fromIp, Heard, frame, nothing, heard, isAllowed, repeats, isForwarded, acknowledgementBy, forwardedOctets, acceptedOutcome, outcomeOf, sent, memoryAfter, HandedOn, Did}
+use Rattle.coupler.specs.Step.{Setting, stepTests, fromIp, toIp, Heard, frame, nothing, heard, isAllowed, repeats, isForwarded, acknowledgementBy, forwardedMeaning, indication, formOf, forwardedOctets, outcomeOf, sent, memoryAfter, Did}
 use Rattle.coupler.specs.declared.Acknowledgement.the-variants.{Silence, Acknowledged}
 use Rattle.coupler.specs.declared.Acknowledgement.{Acknowledgement}
 use Rattle.coupler.specs.declared.Memory.{Memory}
@@ -23,11 +24,16 @@ use Rattle.coupler.specs.declared.Outcome.{Outcome}
 use Rattle.frame.proofs.Numbers.{refused-number}
 use Rattle.frame.specs.Order.{FirstIs}
 use Rattle.frame.specs.Refusals.{number}
+use Rattle.frame.specs.Valid.{Valid}
 use Rattle.frame.specs.declared.Meaning.{Meaning}
 use Rattle.frame.specs.declared.Refusal.{Refusal}
+use Rattle.octets.proofs.Below.{and-true}
 use Rattle.octets.specs.Octets.{Octets}
 use Rattle.octets.specs.Room.{over}
-use Rattle.promises.proofs.Heard.{Hears, hears-iff, refuses-iff}
+use Rattle.routing.specs.Layout.{routingOctets}
+use Rattle.tp1.specs.Layout.{tp1Octets}
+use Rattle.cemi.specs.Layout.{plainBits, plain}
+use Rattle.promises.proofs.Heard.{IsFrameOn, on-tp1, on-ip, Hears, hears-iff, refuses-iff}
 
 -- the frame that the receiving side remembers
 abbrev pub rememberedBy : Setting → Memory → List ℕ
@@ -242,3 +248,96 @@ module _ (k : Setting) (m m′ : Memory) (s room room′ : List ℕ) (o : Outcom
     (λ z. refuses-iff k s (length room) r .0 (number-iff k (rememberedBy k m) (heard k s (length room)) r .0 (sym (ap (λ (u : Outcome). u .number) (d .handed .outcome)) ∙ z))),
     (λ f. ap (λ (u : Outcome). u .number) (outcome-of _ (refuses-iff k s (length room) r .1 f))),
   )
+
+-- "Afterwards the accepted frame is the remembered one": what its side then recalls is the octets received, and the other side is as it was
+
+-- a memory as its type has it: room for the largest frame on either side
+pub record Roomy (m : Memory) : Type 0 where
+  pub main : length (m .main .octets) ≡ 263
+  pub sub : length (m .sub .octets) ≡ 263
+
+abbrev pub otherSide : ℕ → ℕ
+otherSide side = 1 - side
+
+pub record Remembers (m m′ : Memory) (side : ℕ) (s : List ℕ) : Type 0 where
+  pub received : recalled (sideOf m′ side) ≡ s
+  pub other : sideOf m′ (otherSide side) ≡ sideOf m (otherSide side)
+
+remembers-on : (m : Memory) (side : ℕ) (s : List ℕ) → Roomy m → length s ≤ 263 → side < 2 → Remembers m (rememberedOn m side s) side s
+remembers-on m side s w h b = go (eqb side 0) refl
+  where
+    main : Remembers m (rememberedOn m 0 s) 0 s
+    main = let e = remembers-main m s (w .main) h in record { received = e .0; other = e .1 }
+
+    sub : Remembers m (rememberedOn m 1 s) 1 s
+    sub = let e = remembers-sub m s (w .sub) h in record { received = e .0; other = e .1 }
+
+    go : (c : Bool) → eqb side 0 ≡ c → Remembers m (rememberedOn m side s) side s
+    go true e = subst (λ (n : ℕ). Remembers m (rememberedOn m n s) n s) (sym (eqb-true side 0 e)) main
+    go false e =
+        let n : side ≡ 0 → ⊥ = eqb-false side 0 e in
+        let one : 1 ≡ side = omega arith in
+        subst (λ (n : ℕ). Remembers m (rememberedOn m n s) n s) one sub
+
+pub remembers-the-frame : (k : Setting) (m m′ : Memory) (s room room′ : List ℕ) (o : Outcome) → Octets s → Did k m s room o m′ room′ → Roomy m → HearsOne k s (length room) (λ x. Unit {0}) → fromIp k ≡ false
+    → Remembers m m′ (k .side) s
+remembers-the-frame k m m′ s room room′ o c d y w f =
+    let e : heard k s (length room) ≡ frame (w .meaning) (w .payload) = hears-iff k s (length room) (w .meaning) (w .payload) c .1 (w .hears) in
+    let same : rememberedOn m (k .side) s ≡ m′ = sym (d .memory ∙ ap (memoryAfter k m s) e ∙ rw f refl) in
+    let numbers = and-true (ltb (k .side) 2) (ltb (k .medium) 2) (not-false _ (w .hears .set .1 .1 .0)) in
+    subst (λ (n : Memory). Remembers m n (k .side) s) same
+    (remembers-on m (k .side) s y (heard-size k s (length room) (w .meaning) (w .payload) c e f) (ltb-true (k .side) 2 (numbers .0)))
+
+-- "A forwarded frame keeps format, priority, addresses and payload; its repeat flag says first sending; its count follows the rule of demand 2":
+-- 7 stays, any other drops by one
+pub record Keeps (x y : Meaning) : Type 0 where
+  pub format : y .extended ≡ x .extended
+  pub priority : y .priority ≡ x .priority
+  pub source : y .source ≡ x .source
+  pub group : y .group ≡ x .group
+  pub destination : y .destination ≡ x .destination
+  pub first : y .first ≡ true
+  pub seven : x .count ≡ 7 → y .count ≡ 7
+  pub lower : (x .count ≡ 7 → ⊥) → y .count ≡ x .count - 1
+
+pub record Onward (k : Setting) (x : Meaning) (p octets : List ℕ) : Type 0 where
+  pub meaning : Meaning
+  pub keeps : Keeps x meaning
+  -- "on IP it is a plain indication in a routing datagram"
+  pub on-tp1 : toIp k ≡ false → octets ≡ tp1Octets meaning p
+  pub on-ip : toIp k ≡ true → octets ≡ routingOctets (indication meaning) p
+  -- a frame of the medium that it goes out by
+  pub is-frame : Valid x p → IsFrameOn octets meaning p (toIp k)
+
+valid-onward : (x : Meaning) (p : List ℕ) → Valid x p → Valid (forwardedMeaning x) p
+valid-onward x p v = record { ranges = forwarded-ranged x (length p) (v .ranges); source = v .source; destination = v .destination; octets = v .octets }
+
+frame-onward : (x : Meaning) (p : List ℕ) (b : Bool) → Valid x p → IsFrameOn (formOf b x p) (forwardedMeaning x) p b
+unfolding formOf routingOctets plain
+frame-onward x p true v = on-ip plainBits [] (record { few = omega arith; octets = λ i. omega arith }) (valid-onward x p v) refl
+frame-onward x p false v = on-tp1 (valid-onward x p v) refl
+
+pub forwards-the-frame : (k : Setting) (x : Meaning) (p : List ℕ) → Onward k x p (forwardedOctets k x p)
+unfolding formOf
+forwards-the-frame k x p = record {
+  meaning = forwardedMeaning x;
+  keeps = record {
+    format = refl;
+    priority = refl;
+    source = refl;
+    group = refl;
+    destination = refl;
+    first = refl;
+    seven = λ e. rw e refl;
+    lower = λ n. rw (ne-eqb (x .count) 7 n) refl;
+  };
+  on-tp1 = λ e. rw e refl;
+  on-ip = λ e. rw e refl;
+  is-frame = frame-onward x p (toIp k);
+}
+
+-- a frame for the coupler itself never passes, under any code
+pub own-never-passes : (line : ℕ) (codes : List (List ℕ)) (table : List ℕ) (direction : ℕ) (group : Bool) (destination : ℕ)
+    → isOwn line group destination ≡ true → mayPass line codes table direction group destination ≡ false
+unfolding mayPass
+own-never-passes line codes table direction group destination e = rw e refl
