@@ -6,8 +6,9 @@ from collections import namedtuple
 
 ROOT = pathlib.Path(__file__).resolve().parent.parent
 
-# `path` is the way to the function as callers write it, `contract` a dict of its clauses.
-Function = namedtuple("Function", "crate path public contract body uses")
+# `path` is the way to the function as callers write it, `contract` a dict of its clauses, `file` where it
+# stands and `place` from where to where, comments left out.
+Function = namedtuple("Function", "crate path public contract body uses file place")
 Edit = namedtuple("Edit", "crate name file text pairs")
 
 FN = re.compile(r'\b(pub(?:\([^)]*\))?\s+)?(?:extern\s+"C"\s+)?fn\s+(\w+)')
@@ -40,17 +41,22 @@ def closing(text, at):
     raise ValueError("a brace is not closed")
 
 
-def clauses_and_body(text, at):
-    contract = {}
+def parts(text, at):
+    """The clauses of a function and its body, from the first brace behind `at` on: word, begin, end."""
     while True:
         begin = text.index("{", at)
         end = closing(text, begin)
         word = (text[at:begin].split() or [""])[-1]
-        inside = " ".join(text[begin + 1 : end - 1].split())
         if word not in ("requires", "ensures"):
-            return contract, inside
-        contract[word] = inside
+            yield "", begin, end
+            return
+        yield word, begin, end
         at = end
+
+
+def clauses_and_body(text, at):
+    inside = {word: " ".join(text[begin + 1 : end - 1].split()) for word, begin, end in parts(text, at)}
+    return inside, inside.pop("")
 
 
 def imports(text):
@@ -73,7 +79,8 @@ def functions_in(crate, files, name="lib", path=(), public=True):
         kind = next(((t,) for begin, end, t in methods if begin < match.start() < end), ())
         contract, body = clauses_and_body(text, match.end())
         seen = public and (match.group(1) or "").strip() == "pub"
-        yield Function(crate, path + kind + (match.group(2),), seen, contract, body, imports(text))
+        place = (match.start(), [end for _, _, end in parts(text, match.end())][-1])
+        yield Function(crate, path + kind + (match.group(2),), seen, contract, body, imports(text), name, place)
     for match in MOD.finditer(text):
         if match.group(3) == "{":
             raise ValueError(f"{crate}/src/{name}.rt: an inline `mod` is not known to this script")
@@ -143,3 +150,18 @@ def reached(function, others):
         names = {tuple(name.removeprefix("crate::").split("::")) for name in called}
         todo += [f for f in others if any(f.path[-len(name) :] == name for name in names)]
     return found
+
+
+def called(function):
+    """What a function's name is in the names of edits: at the C surface the names go without the crate's."""
+    return function.path[-1].removeprefix(f"{function.crate}_")
+
+
+def named_for(edit):
+    """The function that an edit is named for: the longest name that the edit's begins with; of two with
+    one name that which the edit changes. None where there is none."""
+    fitting = [f for f in functions(edit.crate) if edit.name.startswith(called(f) + "_")]
+    longest = max((len(called(f)) for f in fitting), default=0)
+    fitting = [f for f in fitting if len(called(f)) == longest]
+    own = {f.path for f in changed(edit) or []}
+    return next((f for f in fitting if f.path in own), fitting[0] if fitting else None)

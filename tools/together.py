@@ -3,6 +3,7 @@ it makes wrong: each function is proved by itself, from the contracts of those t
 programs share an edit where none changes a function that another one changes, calls or is called by;
 then what the checker says of a function is due to the one program that changes it."""
 
+import logs
 import sources
 from sources import ROOT
 
@@ -26,13 +27,7 @@ def touched(edit):
 
 def is_own(file, changed):
     """Whether a file of an edit is code, or the proof of a function that the edit changes."""
-    return file.startswith("src/") or any(is_proof_of(file, function.path) for function in changed)
-
-
-def is_proof_of(file, path):
-    """Functions that call one another have one proof, in a folder with all their names: +a+b."""
-    parts = tuple(file.split("/"))[1:-1]
-    return file.startswith("proofs/") and parts[:-1] == path[:-1] and path[-1] in parts[-1:] + tuple(parts[-1].split("+"))
+    return file.startswith("src/") or any(logs.is_proof_of(file, function.path) for function in changed)
 
 
 def are_apart(one, other):
