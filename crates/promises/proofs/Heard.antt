@@ -3,25 +3,25 @@
 -- layout by the readers' round trips.
 use Prim.Native.Nat.{ℕ}
 use mathlib.Core.Bool.{Bool, true, false}
-use mathlib.Core.List.{List, _++_}
+use mathlib.Core.List.{List}
 use mathlib.Core.Logic.{_↔_}
 use mathlib.Core.Path.{_≡_, refl, sym, ap, _∙_, subst}
 use native.Mathlib.Omega.{arith}
-use lib.ListN.{length, drop}
+use lib.ListN.{drop}
 use borrow.Author.Tests.{eqb-true, not-true}
 use Rattle.cemi.proofs.LayoutLaws.{message-ranges}
 use Rattle.cemi.proofs.RoundTrip.{read-laid as cemi-read-laid, laid-read as cemi-laid-read, laid-payload as cemi-laid-payload}
 use Rattle.cemi.specs.Layout.{Unread, cemiOctets}
-use Rattle.cemi.specs.Reading.{body, messageIn, informationIn, payloadIn as cemiPayload}
+use Rattle.cemi.specs.Reading.{body, messageIn, informationIn}
 use Rattle.cemi.specs.Valid.{ValidInformation, ValidMessage}
 use Rattle.cemi.specs.Writing.{messageInRange}
 use Rattle.cemi.specs.declared.CemiAnswer.the-variants.{Frame as Message-is, Refused as Message-not}
 use Rattle.cemi.specs.declared.CemiAnswer.{CemiAnswer}
 use Rattle.cemi.specs.declared.Codes.the-variants.{IndicationOnly}
 use Rattle.cemi.specs.declared.Message.{Message}
-use Rattle.coupler.specs.Step.{Setting, settingTests, fromIp, Heard, frame, nothing, heardTp1, heardIp, readBy, readerTests, stepTests, after, heard, indication}
+use Rattle.coupler.specs.Step.{Setting, settingTests, fromIp, frame, nothing, heardTp1, heardIp, readBy, readerTests, stepTests, after, heard, indication}
 use Rattle.frame.proofs.Order.{passed-iff, refused-iff, first-passed, first-refused}
-use Rattle.frame.specs.Order.{Test, Verdict, firstOf, answerBy, NoneOf, FirstIs, pass, refuse}
+use Rattle.frame.specs.Order.{Verdict, firstOf, answerBy, NoneOf, FirstIs, pass, refuse}
 use Rattle.frame.specs.Valid.{Valid}
 use Rattle.frame.specs.declared.Meaning.{Meaning}
 use Rattle.frame.specs.declared.Refusal.{Refusal}

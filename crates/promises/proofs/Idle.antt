@@ -1,18 +1,20 @@
 -- Document 01: "These idle programs have to be shut out". A program is any function that meets the contract of its call; each theorem shows
 -- that none of the kind named does, from the case or the demand that the paper names beside it.
-use Prim.Native.Nat.{ℕ, zero, suc, _-_, _≤_}
-use mathlib.Core.List.{List, [], _∷_, _++_}
+use Prim.Native.Nat.{ℕ, zero, suc, _≤_}
+use mathlib.Core.Bool.{true, false}
+use mathlib.Core.List.{List, [], _∷_}
 use mathlib.Core.Path.{_≡_, refl, sym, ap, _∙_, subst}
 use native.Mathlib.Omega.{arith}
-use lib.ListN.{length, take, drop, replicate, length-replicate}
-use lib.Seq.{take-at}
-use Rattle.coupler.proofs.Promised.{follows-series}
+use lib.ListN.{length, take, replicate, length-replicate}
 use Rattle.coupler.specs.Memory.{kept, recalled, noMemory, sideOf}
-use Rattle.coupler.specs.Series.{Input, Done, series, Follows}
+use Rattle.coupler.specs.Series.{Input, Done, Follows}
 use Rattle.coupler.specs.Step.{Setting, settingOf, Heard, frame, nothing, heard, outcomeOf, sent, memoryAfter, Did}
 use Rattle.coupler.specs.declared.Memory.{Memory}
 use Rattle.coupler.specs.declared.Outcome.{Outcome}
-use Rattle.frame.specs.Answers.{Numbered}
+use Rattle.frame.proofs.Writing.{put-iff, wrote-over}
+use Rattle.frame.specs.Answers.{Numbered, writtenNumbered}
+use Rattle.frame.specs.Fields.{controlOf, ctrleOf}
+use Rattle.frame.specs.Order.{firstOf}
 use Rattle.frame.specs.Valid.{inRange}
 use Rattle.frame.specs.Writing.{Wrote}
 use Rattle.frame.specs.declared.Meaning.{Meaning}
@@ -21,11 +23,12 @@ use Rattle.octets.specs.Octets.{octetAt}
 use Rattle.octets.specs.Room.{over}
 use Rattle.site.specs.Stores.{Stores, stores}
 use Rattle.tp1.specs.Answers.{tp1Numbered}
-use Rattle.tp1.specs.Layout.{tp1Octets}
+use Rattle.octets.specs.Check.{checkOctet}
+use Rattle.tp1.specs.Layout.{head, sealed, tp1Octets}
 use Rattle.tp1.specs.Reading.{readTp1}
 use Rattle.tp1.specs.declared.Tp1Answer.{Tp1Answer}
 use Rattle.tracer.specs.Listing.{Query, queryOf}
-use Rattle.tracer.specs.Tracing.{DidTrace}
+use Rattle.tracer.specs.Tracing.{traceTests, tracedBy, listBy, DidTrace}
 use Rattle.tracer.specs.declared.Traced.{Traced}
 use Rattle.promises.specs.Telegrams.{Case, _hears_and_, Does, sends, Holds, Every, P1, P2, P7, P8, P10, P12a, cases, fromIpOpen, broadcastOpen, closedRow, fourCouplers}
 use Rattle.promises.proofs.Telegrams.{every}
@@ -122,26 +125,26 @@ sentP10 = 0xB0 ∷ 0xAF ∷ 0xFE ∷ 0x00 ∷ 0x00 ∷ 0xD1 ∷ 0x01 ∷ 0x00 �
 
 module _ (step : Setting → Memory → List ℕ → List ℕ → Done)
     (meets : (k : Setting) (m : Memory) (s room : List ℕ) → Did k m s room (step k m s room .outcome) (step k m s room .memory) (step k m s room .room))
-    where
-  does-p10 : Forwards sentP10 (step couplerP10 noMemory heardP10 lent)
-  does-p10 = forwards couplerP10 heardP10 (sends 0xCC sentP10) refl p10 (step couplerP10 noMemory heardP10 lent) (meets couplerP10 noMemory heardP10 lent)
+  where
+    does-p10 : Forwards sentP10 (step couplerP10 noMemory heardP10 lent)
+    does-p10 = forwards couplerP10 heardP10 (sends 0xCC sentP10) refl p10 (step couplerP10 noMemory heardP10 lent) (meets couplerP10 noMemory heardP10 lent)
 
-  pub forwards-nothing : ((k : Setting) (m : Memory) (s room : List ℕ) → step k m s room .outcome .forwarded ≡ 0) → ⊥
-  forwards-nothing h = omega (arith, h couplerP10 noMemory heardP10 lent, does-p10 .size)
+    pub forwards-nothing : ((k : Setting) (m : Memory) (s room : List ℕ) → step k m s room .outcome .forwarded ≡ 0) → ⊥
+    forwards-nothing h = omega (arith, h couplerP10 noMemory heardP10 lent, does-p10 .size)
 
-  -- what it forwards are the octets that came
-  pub copies-octets-unchanged : ((k : Setting) (m : Memory) (s room : List ℕ) → (step k m s room .outcome .forwarded ≡ 0 → ⊥)
-      → take (step k m s room .outcome .forwarded) (step k m s room .room) ≡ s) → ⊥
-  copies-octets-unchanged h =
-      let same : take (step couplerP10 noMemory heardP10 lent .outcome .forwarded) (step couplerP10 noMemory heardP10 lent .room) ≡ heardP10 =
-      h couplerP10 noMemory heardP10 lent (λ z. omega (arith, z, does-p10 .size)) in
-      let front : take 9 (over sentP10 lent) ≡ heardP10 = sym (λ j. take (does-p10 .size j) (does-p10 .front j)) ∙ same in
-      omega (arith, ap (λ (l : List ℕ). octetAt l 5) front)
+    -- what it forwards are the octets that came
+    pub copies-octets-unchanged : ((k : Setting) (m : Memory) (s room : List ℕ) → (step k m s room .outcome .forwarded ≡ 0 → ⊥)
+        → take (step k m s room .outcome .forwarded) (step k m s room .room) ≡ s) → ⊥
+    copies-octets-unchanged h =
+        let same : take (step couplerP10 noMemory heardP10 lent .outcome .forwarded) (step couplerP10 noMemory heardP10 lent .room) ≡ heardP10 =
+        h couplerP10 noMemory heardP10 lent (λ z. omega (arith, z, does-p10 .size)) in
+        let front : take 9 (over sentP10 lent) ≡ heardP10 = sym (λ j. take (does-p10 .size j) (does-p10 .front j)) ∙ same in
+        omega (arith, ap (λ (l : List ℕ). octetAt l 5) front)
 
 -- "one that decides on its first frame and repeats that answer later (demand 2 for each step, with the remembered frame)": a series of steps, each
 -- given the memory that the one before it left
 
-abbrev AllLike : Outcome → List Done → Type 0
+abbrev pub AllLike : Outcome → List Done → Type 0
 AllLike o [] = Unit {0}
 AllLike o (d ∷ ds) = (d .outcome ≡ o) × AllLike o ds
 
@@ -170,3 +173,88 @@ repeats-its-first-answer steps meets h = go (steps noMemory is) (meets noMemory 
         let same : d .memory ≡ noMemory = f .0 .memory ∙ ip-remembers-nothing noMemory (heardP7 0xC0) (heard fromIpOpen (heardP7 0xC0) (length lent)) in
         let y = forwards fromIpOpen (heardP7 0x80) _ refl p8 e (subst (λ (m : Memory). Did fromIpOpen m (heardP7 0x80) lent (e .outcome) (e .memory) (e .room)) same (f .1 .0)) in
         omega (arith, x .size, y .size, ap (λ (o : Outcome). o .forwarded) (a .0 ∙ sym (a .1 .0)))
+
+-- "a tracer that lists the starting line only, or all lines (demand 3, P12)"
+
+-- what a trace leaves: its answer and the room
+pub record TraceLeft : Type 0 where
+  pub answer : Traced
+  pub room : List ℕ
+
+unfoldable lent768 : List ℕ
+lent768 = replicate 768 0
+
+lent768-size : length lent768 ≡ 768
+unfolding lent768
+lent768-size = length-replicate {A = ℕ} 768 0
+
+abbrev queryP12 : Query
+queryP12 = queryOf 0x47 1 0x1234 2
+
+abbrev listP12 : List ℕ
+listP12 = 0x00 ∷ 0x00 ∷ 0x02 ∷ 0x40 ∷ 0x01 ∷ 0x01 ∷ 0x45 ∷ 0x00 ∷ 0x02 ∷ 0x47 ∷ 0x02 ∷ 0x00 ∷ []
+
+module _ (trace : Stores → List ℕ → Query → List ℕ → TraceLeft)
+    (meets : (st : Stores) (site : List ℕ) (q : Query) (room : List ℕ) → DidTrace st site q room (trace st site q room .answer) (trace st site q room .room))
+  where
+    abbrev traced : TraceLeft
+    traced = trace (stores [] []) (fourCouplers 2) queryP12 lent768
+
+    answer-p12 : traced .answer ≡ record { number = 0; lines = 4; forwardings = 3 }
+    answer-p12 =
+        meets (stores [] []) (fourCouplers 2) queryP12 lent768 .answered
+        ∙ ap (λ (n : ℕ). tracedBy (stores [] []) (fourCouplers 2) queryP12 (firstOf (traceTests (stores [] []) (fourCouplers 2) queryP12 n))) lent768-size
+        ∙ p12 .0
+
+    room-p12 : traced .room ≡ over listP12 lent768
+    room-p12 =
+        meets (stores [] []) (fourCouplers 2) queryP12 lent768 .left
+        ∙ ap (λ (n : ℕ). over (listBy (stores [] []) (fourCouplers 2) queryP12 (firstOf (traceTests (stores [] []) (fourCouplers 2) queryP12 n))) lent768) lent768-size
+        ∙ ap (λ (l : List ℕ). over l lent768) (p12 .1)
+
+    pub lists-the-starting-line-only : ((st : Stores) (site : List ℕ) (q : Query) (room : List ℕ) → trace st site q room .answer .number ≡ 0 → trace st site q room .answer .lines ≡ 1) → ⊥
+    lists-the-starting-line-only h =
+        omega (arith, ap (λ (t : Traced). t .lines) answer-p12, h (stores [] []) (fourCouplers 2) queryP12 lent768 (ap (λ (t : Traced). t .number) answer-p12))
+
+    pub lists-all-lines : ((st : Stores) (site : List ℕ) (q : Query) (room : List ℕ) → trace st site q room .answer .number ≡ 0 → trace st site q room .answer .lines ≡ 256) → ⊥
+    lists-all-lines h =
+        omega (arith, ap (λ (t : Traced). t .lines) answer-p12, h (stores [] []) (fourCouplers 2) queryP12 lent768 (ap (λ (t : Traced). t .number) answer-p12))
+
+-- "Round trips speak of demand 2's layouts, so a writer that keeps its own private form fails."
+
+-- what a writer leaves: its answer and the room
+pub record WriteLeft : Type 0 where
+  pub answer : Written
+  pub room : List ℕ
+
+abbrev meaningP1 : Meaning
+meaningP1 = record { extended = false; first = true; priority = 3; source = 0; group = true; destination = 0x1234; count = 3 }
+
+abbrev payloadP1 : List ℕ
+payloadP1 = 0x00 ∷ 0x80 ∷ 0x56 ∷ 0x78 ∷ 0x9A ∷ []
+
+-- P1's octets are the frame of P1's meaning and payload
+laid-p1 : tp1Octets meaningP1 payloadP1 ≡ telegram 0xE5
+unfolding checkOctet controlOf ctrleOf head sealed tp1Octets
+laid-p1 = refl
+
+ranged-p1 : inRange meaningP1 (length payloadP1) ≡ true
+unfolding inRange
+ranged-p1 = refl
+
+-- how many octets of the room are the frame's
+abbrev pub writtenSize : Written → ℕ
+writtenSize w = octetAt (writtenNumbered w .values) 0
+
+-- the octets that it writes are those of a form of its own, which for P1's meaning and payload are not P1's
+pub keeps-a-private-form : (write : Meaning → List ℕ → List ℕ → WriteLeft)
+    → ((m : Meaning) (p room : List ℕ) → Wrote (inRange m (length p)) (tp1Octets m p) room (write m p room .answer) (write m p room .room))
+    → (form : Meaning → List ℕ → List ℕ) → (form meaningP1 payloadP1 ≡ telegram 0xE5 → ⊥)
+    → ((m : Meaning) (p room : List ℕ) → inRange m (length p) ≡ true → 272 ≤ length room → take (writtenSize (write m p room .answer)) (write m p room .room) ≡ form m p) → ⊥
+keeps-a-private-form write meets form other writes =
+    let w = meets meaningP1 payloadP1 lent in
+    let fits : length (tp1Octets meaningP1 payloadP1) ≤ length lent = omega (arith, ap length laid-p1, lent-size) in
+    let put = put-iff (inRange meaningP1 (length payloadP1)) (tp1Octets meaningP1 payloadP1) lent (length (tp1Octets meaningP1 payloadP1)) .1 (ranged-p1, (fits, refl)) in
+    let size : writtenSize (write meaningP1 payloadP1 lent .answer) ≡ 12 = ap writtenSize (w .answered ∙ put) ∙ ap length laid-p1 in
+    let room : write meaningP1 payloadP1 lent .room ≡ over (telegram 0xE5) lent = wrote-over ranged-p1 fits w ∙ ap (λ (l : List ℕ). over l lent) laid-p1 in
+    other (sym (writes meaningP1 payloadP1 lent ranged-p1 (omega (arith, lent-size))) ∙ (λ j. take (size j) (room j)))
