@@ -1,0 +1,177 @@
+/*
+ * How much stack each exported call takes, on x86-64 Linux: it is run instruction by instruction and
+ * the lowest stack pointer is kept, less that of an empty call. (Code for this machine may also use
+ * the 128 octets below the stack pointer, which every stack has to leave free.) Told is the most over
+ * the inputs below: the longest frames of both formats, every direction of a step, refusals, and
+ * traces and explanations on a site of 255 couplers with filter tables, over the longest path.
+ */
+#define _GNU_SOURCE
+#include <signal.h>
+#include <stdio.h>
+#include <string.h>
+#include <ucontext.h>
+
+#include "klumdray.h"
+
+enum { HANDLER_STACK = 1 << 16, COUPLERS = 255 };
+
+static uint8_t handler_stack[HANDLER_STACK];
+static volatile uintptr_t lowest;
+
+static uint8_t payload[255], tp1[KLUMDRAY_FRAME_SIZE], cemi[300], datagram[300], room[800];
+static uint8_t memory[KLUMDRAY_MEMORY_SIZE], table[KLUMDRAY_TABLE_SIZE];
+static uint8_t site[COUPLERS * KLUMDRAY_RECORD_SIZE], codes[KLUMDRAY_CODES_SIZE];
+static size_t tp1_length, cemi_length, datagram_length;
+static uint8_t side, medium, kind, start, line;
+static uint64_t answer;
+
+static void nothing(void) {}
+static void check_octet(void) { answer = klumdray_check_octet(tp1, tp1_length); }
+static void tp1_read(void) { answer = klumdray_tp1_read(tp1, tp1_length); }
+static void cemi_read(void) { answer = klumdray_cemi_read(cemi, cemi_length); }
+static void routing_read(void) { answer = klumdray_routing_read(datagram, datagram_length); }
+
+static void tp1_write(void)
+{
+    answer = klumdray_tp1_write(1, 1, 3, 0x1101, 1, 0x1234, 6, payload, 255, room, sizeof room);
+}
+
+static void cemi_write(void)
+{
+    answer = klumdray_cemi_write(0x29, 0, 1, 1, 3, 0x1101, 1, 0x1234, 6, payload, 255, room,
+                                 sizeof room);
+}
+
+static void routing_write(void)
+{
+    answer = klumdray_routing_write(0x29, 0, 1, 1, 3, 0x1101, 1, 0x1234, 6, payload, 255, room,
+                                    sizeof room);
+}
+
+static void step(void)
+{
+    int ip = side == KLUMDRAY_MAIN && medium == KLUMDRAY_IP;
+    answer = klumdray_step(0x47, codes, sizeof codes, table, sizeof table, side, medium, memory,
+                           sizeof memory, ip ? datagram : tp1, ip ? datagram_length : tp1_length,
+                           room, sizeof room);
+}
+
+static void trace(void)
+{
+    answer = klumdray_trace(start, kind, 0x1234, 6, site, sizeof site, table, sizeof table, NULL, 0,
+                            room, sizeof room);
+}
+
+static void why(void)
+{
+    answer = klumdray_why(start, kind, 0x1234, 6, site, sizeof site, table, sizeof table, NULL, 0,
+                          line);
+}
+
+static void keep_lowest(int number, siginfo_t *info, void *context)
+{
+    uintptr_t pointer = (uintptr_t)((ucontext_t *)context)->uc_mcontext.gregs[REG_RSP];
+    (void)number, (void)info;
+    if (pointer < lowest)
+        lowest = pointer;
+}
+
+/* The processor's trap flag stops it after each instruction. */
+static uintptr_t lowest_of(void (*call)(void))
+{
+    lowest = UINTPTR_MAX;
+    __asm__ volatile("pushfq; orq $0x100, (%%rsp); popfq" ::: "memory", "cc");
+    call();
+    __asm__ volatile("pushfq; andq $-0x101, (%%rsp); popfq" ::: "memory", "cc");
+    return lowest;
+}
+
+static void handle_traps(void)
+{
+    stack_t own = {.ss_sp = handler_stack, .ss_size = sizeof handler_stack};
+    struct sigaction action = {.sa_sigaction = keep_lowest, .sa_flags = SA_SIGINFO | SA_ONSTACK};
+    sigaltstack(&own, NULL);
+    sigaction(SIGTRAP, &action, NULL);
+}
+
+static size_t most;
+
+static void try_call(void (*call)(void))
+{
+    size_t own = lowest_of(nothing) - lowest_of(call);
+    if (own > most)
+        most = own;
+}
+
+static void tell(const char *name)
+{
+    printf("%-22s %5zu\n", name, most);
+    most = 0;
+}
+
+static void prepare(void)
+{
+    size_t i;
+    memset(codes, 1, sizeof codes);
+    codes[1] = codes[5] = 2;
+    memset(table, 0xFF, sizeof table);
+    for (i = 0; i < COUPLERS; i++) {
+        uint8_t *record = site + i * KLUMDRAY_RECORD_SIZE;
+        record[0] = 0x43, record[1] = 0x50, record[2] = (uint8_t)(i + 1);
+        memcpy(record + 3, codes, sizeof codes);
+        record[11] = 0;
+    }
+    tp1_write();
+    tp1_length = klumdray_written(answer);
+    memcpy(tp1, room, tp1_length);
+    cemi_write();
+    cemi_length = klumdray_written(answer);
+    memcpy(cemi, room, cemi_length);
+    routing_write();
+    datagram_length = klumdray_written(answer);
+    memcpy(datagram, room, datagram_length);
+}
+
+static void steps(void)
+{
+    for (side = 0; side < 2; side++)
+        for (medium = 0; medium < 2; medium++) {
+            tp1[2] ^= 1, tp1[tp1_length - 1] ^= 1;
+            try_call(step);
+            try_call(step);
+        }
+    side = 2;
+    try_call(step);
+    tell("klumdray_step");
+}
+
+static void traces(void)
+{
+    for (kind = 0; kind < 2; kind++)
+        for (start = 0x46; start < 0x48; start++)
+            try_call(trace);
+    kind = 2;
+    try_call(trace);
+    tell("klumdray_trace");
+    start = 0x46;
+    for (kind = 0; kind < 3; kind++)
+        for (line = 0x47; line < 0x60; line += 8)
+            try_call(why);
+    tell("klumdray_why");
+}
+
+int main(void)
+{
+    handle_traps();
+    prepare();
+    try_call(check_octet), tell("klumdray_check_octet");
+    try_call(tp1_read), tell("klumdray_tp1_read");
+    try_call(tp1_write), tell("klumdray_tp1_write");
+    try_call(cemi_read), tell("klumdray_cemi_read");
+    try_call(cemi_write), tell("klumdray_cemi_write");
+    try_call(routing_read), tell("klumdray_routing_read");
+    try_call(routing_write), tell("klumdray_routing_write");
+    steps();
+    traces();
+    return 0;
+}
