@@ -32,7 +32,7 @@ isGoing (Going count) = true
 isGoing (Stopped stop) = false
 
 -- "7, or c minus d": what is left is not used up exactly if the count lasts for one coupler more
-left-lasts : (c d : ℕ) → lasts c d ≡ true → not (eqb (onArrival c d) 0) ≡ lasts c (suc d)
+pub left-lasts : (c d : ℕ) → lasts c d ≡ true → not (eqb (onArrival c d) 0) ≡ lasts c (suc d)
 unfolding lasts onArrival
 left-lasts c d e =
     by-cases (eqb c 7)

@@ -1,13 +1,13 @@
 -- In a well-formed site every coupler that is fitted has a line that is not 00h, codes that are allowed and a table that fits them, so
 -- that its step refuses none of its settings.
-use Prim.Native.Nat.{ℕ, zero, suc, _/_, _<_}
+use Prim.Native.Nat.{ℕ, zero, suc, _/_, _≤_, _<_}
 use mathlib.Core.Bool.{Bool, true, false, not, cond, _&&_, _||_}
 use mathlib.Core.List.{List, [], _∷_}
 use mathlib.Core.Path.{_≡_, refl, sym, ap, _∙_, subst}
 use native.Mathlib.Omega.{arith}
 use lib.Dec.{ltb, eqb}
 use lib.ListN.{length, take, drop}
-use borrow.Author.Tests.{eqb-true, not-false, lt-ltb, eq-eqb}
+use borrow.Author.Tests.{eqb-true, not-false, lt-ltb, le-ltb, eq-eqb}
 use Rattle.coupler.specs.Settings.{areCodes, asksTable, tableFits}
 use Rattle.coupler.specs.Step.{settingTests}
 use Rattle.frame.proofs.Order.{passed-iff}
@@ -18,7 +18,8 @@ use Rattle.site.specs.Records.{recordsBy, recordsOf, lineOf, codesOf, tableNumb
 use Rattle.site.specs.Stores.{Stores, tableOf}
 use Rattle.site.specs.WellFormed.{hasTable, recordsTests, siteTests}
 use Rattle.tracer.proofs.Paths.{by-cases, never}
-use Rattle.tracer.specs.Journey.{settingBy}
+use Rattle.tracer.specs.Journey.{AtWork, isIp, settingBy}
+use Rattle.tracer.specs.Lines.{mainSide}
 
 -- the record of a line, as a well-formed site has it
 pub record IsSet (st : Stores) (line : ℕ) (r : List ℕ) : Type 0 where
@@ -80,7 +81,11 @@ table-fits st r h =
     (λ e. let a : eqb (length (tableOf (tableNumber r) st)) 8192 ≡ true = rw e at h in rw a refl)
 
 -- the step's settings pass
-pub set-passes : (st : Stores) (line : ℕ) (r : List ℕ) → IsSet st line r → (side : ℕ) → side < 2 → firstOf (settingTests (settingBy st r side) 272) ≡ pass
-set-passes st line r x side h =
-    passed-iff (settingTests (settingBy st r side) 272) .1
-    (x .codes, (ap not (table-fits st r (x .table)), (ap (λ (b : Bool). not (b && ltb 0 2)) (lt-ltb side 2 h), (refl, tt))))
+pub set-passes : (w : AtWork) (line : ℕ) (r : List ℕ) → IsSet (w .stores) line r → (side room : ℕ) → side < 2 → 272 ≤ room → firstOf (settingTests (settingBy w r side) room) ≡ pass
+set-passes w line r x side room h n =
+    passed-iff (settingTests (settingBy w r side) room) .1
+    (x .codes, (ap not (table-fits (w .stores) r (x .table)), (rw (lt-ltb side 2 h) (ap not (medium (isIp w (mainSide (lineOf r))))), (le-ltb room 272 n, tt))))
+  where
+    medium : (b : Bool) → ltb (cond b 1 0) 2 ≡ true
+    medium true = refl
+    medium false = refl

@@ -1,132 +1,213 @@
 -- One coupler: the step of a fitted coupler hands a valid first sending on exactly if the coupler lets it pass and its count is not used
 -- up, and then with its count by the hop rule. And one crossing more on a path: what that asks of the list.
-use Prim.Native.Nat.{ℕ, suc, _-_, _≤_, _<_}
-use mathlib.Core.Bool.{Bool, true, false, not, cond, _&&_, _||_}
+use Prim.Native.Nat.{ℕ, zero, suc, _-_, _≤_, _<_}
+use mathlib.Core.Bool.{Bool, true, false, not, cond, _&&_}
 use mathlib.Core.List.{List, [], _∷_, _++_}
-use mathlib.Core.Logic.{_↔_}
-use mathlib.Core.Path.{_≡_, refl, sym, ap, _∙_}
+use mathlib.Core.Path.{_≡_, refl, sym, ap, _∙_, subst}
+use native.Mathlib.Numerals.{add-one}
 use native.Mathlib.Omega.{arith}
-use lib.Dec.{leb, eqb}
-use lib.ListN.{length, take, drop, length-append}
+use lib.Dec.{ltb, eqb}
+use lib.ListN.{length, take, drop, replicate, length-append}
 use lib.Seq.{take-at}
-use borrow.Author.Tests.{leb-true, eqb-false, le-ltb, le-leb, ne-eqb}
-use Rattle.coupler.proofs.Promised.{Forwardable, forwarded-iff, sent-is}
-use Rattle.coupler.specs.Memory.{recalled, noMemory, sideOf, isRepetition}
+use borrow.Author.Tests.{ltb-true, eqb-false, not-false, ne-eqb}
+use Rattle.cemi.specs.Writing.{messageInRange}
+use Rattle.cemi.specs.declared.CemiAnswer.{CemiAnswer}
+use Rattle.coupler.proofs.Promised.{Forwardable, Forwards, forwarded-iff, sent-is}
+use Rattle.coupler.specs.Memory.{recalled, sideOf, isRepetition}
 use Rattle.coupler.specs.Passing.{mayPass, hopped}
-use Rattle.coupler.specs.Step.{Setting, settingTests, fromIp, toIp, Heard, heardTp1, readBy, after, heard, forwardedMeaning, formOf, forwardedOctets, outcomeOf, sent, Did, frame, nothing}
+use Rattle.coupler.specs.Step.{Setting, settingTests, fromIp, Heard, heardTp1, heardIp, readBy, after, heard, forwardedMeaning, indication, formOf, forwardedOctets, outcomeOf, sent, memoryAfter, Did, frame, nothing}
 use Rattle.coupler.specs.declared.Memory.{Memory}
 use Rattle.coupler.specs.declared.Outcome.{Outcome}
-use Rattle.frame.specs.Order.{Verdict, firstOf, pass}
+use Rattle.frame.proofs.Order.{passed-iff}
+use Rattle.frame.specs.Order.{Verdict, firstOf, pass, refuse}
 use Rattle.frame.specs.Valid.{Valid}
 use Rattle.frame.specs.declared.Meaning.{Meaning}
 use Rattle.octets.proofs.Below.{and-true}
+use Rattle.octets.specs.Room.{over}
+use Rattle.routing.proofs.RoundTrip.{routing-read, routing-payload}
+use Rattle.routing.specs.Layout.{routingOctets}
 use Rattle.site.specs.Letting.{recordPasses, lineLetsPass}
 use Rattle.site.specs.Records.{recordsOf, lineOf, codesOf, tableNumber, couplerOf, isFitted}
-use Rattle.site.specs.Stores.{Stores, tableOf}
+use Rattle.site.specs.Stores.{tableOf}
 use Rattle.site.specs.WellFormed.{siteTests}
-use Rattle.tp1.proofs.LayoutLaws.{length-octets}
 use Rattle.tp1.proofs.RoundTrip.{laid-read, laid-payload}
 use Rattle.tp1.specs.Layout.{tp1Octets}
 use Rattle.tp1.specs.declared.Tp1Answer.{Tp1Answer}
-use Rattle.tracer.proofs.Fitted.{fitted-set, set-passes}
+use Rattle.tracer.proofs.Explained.{left-lasts}
+use Rattle.tracer.proofs.Fitted.{IsSet, fitted-set, fitted-line, set-passes}
 use Rattle.tracer.proofs.Paths.{by-cases}
-use Rattle.tracer.specs.Journey.{settingBy, sentBy, Hands}
-use Rattle.tracer.specs.Lines.{Crossing, path, distance}
+use Rattle.tracer.proofs.ReachingLaws.{and-false, lasts-less}
+use Rattle.tracer.specs.Journey.{AtWork, isIp, formOn, settingBy, Hands}
+use Rattle.tracer.specs.Lines.{mainSide, Crossing, crossing, fromLine, toLine, path, distance}
 use Rattle.tracer.specs.Listing.{allPass, lasts, isListed, onArrival}
 
-no-ip : (b : Bool) → b && false ≡ false
-no-ip true = refl
-no-ip false = refl
+-- a telegram in the form of a medium, read by that medium's reader
+form-read : (ip : Bool) (m : Meaning) (p : List ℕ) → Valid m p → readBy ip (cond ip (routingOctets (indication m) p) (tp1Octets m p)) ≡ frame m p
+unfolding messageInRange
+form-read true m p v =
+    let s : List ℕ = routingOctets (indication m) p in
+    ap (λ (t : CemiAnswer). heardIp t s) (routing-read (indication m) p (record { ranges = v .ranges; valid = v }))
+    ∙ ap (frame m) (routing-payload (indication m) p)
+form-read false m p v =
+    let s : List ℕ = tp1Octets m p in
+    ap (λ (t : Tp1Answer). heardTp1 t s) (laid-read m p v)
+    ∙ ap (frame m) (laid-payload m p)
 
+pub form-on-read : (w : AtWork) (line : ℕ) (m : Meaning) (p : List ℕ) → Valid m p → readBy (isIp w line) (formOn w line m p) ≡ frame m p
+unfolding formOn
+form-on-read w line m p v = form-read (isIp w line) m p v
+
+-- memory is nothing to a first sending
 first-new : (remembered : List ℕ) (m : Meaning) → m .first ≡ true → isRepetition remembered m ≡ false
 unfolding isRepetition
 first-new remembered m e = rw e
 
-heard-frame : (k : Setting) (m : Meaning) (p : List ℕ) → Valid m p → firstOf (settingTests k 272) ≡ pass → fromIp k ≡ false → heard k (tp1Octets m p) 272 ≡ frame m p
-unfolding heard
-heard-frame k m p v a b =
-    let s : List ℕ = tp1Octets m p in
-    ap (λ (w : Verdict). after w (readBy (fromIp k) s)) a
-    ∙ ap (λ (ip : Bool). readBy ip s) b
-    ∙ ap (λ (t : Tp1Answer). heardTp1 t s) (laid-read m p v)
-    ∙ ap (frame m) (laid-payload m p)
+-- the media of a coupler are those of the lines that a crossing leads from and to
 
-on-tp1 : (k : Setting) (m : Meaning) (p : List ℕ) → toIp k ≡ false → forwardedOctets k m p ≡ tp1Octets (forwardedMeaning m) p
-unfolding formOf
-on-tp1 k m p e = rw e
+medium-ip : (b : Bool) → eqb (cond b 1 0) 1 ≡ b
+medium-ip true = refl
+medium-ip false = refl
 
--- what a call of the step leaves at the front of its room, the memory being empty, is what it is said to send
+not-backbone : (w : AtWork) (n : ℕ) → (n ≡ 0 → ⊥) → isIp w n ≡ false
+not-backbone w n h = rw (ne-eqb n 0 h) (and-false (w .onIp))
 
-heard-room : (k : Setting) (s : List ℕ) (n : ℕ) → 272 ≤ n → heard k s n ≡ heard k s 272
-unfolding heard
-heard-room k s n h = rw (le-ltb n 272 h) refl
+from-medium : (w : AtWork) (n side : ℕ) → (n ≡ 0 → ⊥) → side < 2 → eqb side 0 && eqb (cond (isIp w (mainSide n)) 1 0) 1 ≡ isIp w (fromLine (crossing side n))
+from-medium w n zero h l = medium-ip (isIp w (mainSide n))
+from-medium w n (suc zero) h l = sym (not-backbone w n h)
+from-medium w n (suc (suc side)) h l = absurd (omega arith)
+
+to-medium : (w : AtWork) (n side : ℕ) → (n ≡ 0 → ⊥) → side < 2 → eqb side 1 && eqb (cond (isIp w (mainSide n)) 1 0) 1 ≡ isIp w (toLine (crossing side n))
+to-medium w n zero h l = sym (not-backbone w n h)
+to-medium w n (suc zero) h l = medium-ip (isIp w (mainSide n))
+to-medium w n (suc (suc side)) h l = absurd (omega arith)
+
+-- what a call of the step leaves at the front of its room is what it sends
 
 sent-size : (k : Setting) (remembered : List ℕ) (h : Heard) → outcomeOf k remembered h .forwarded ≡ length (sent k remembered h)
 sent-size k remembered (frame m p) = refl
 sent-size k remembered (nothing r) = refl
 
-pub step-sends : (st : Stores) (r : List ℕ) (side : ℕ) (octets room : List ℕ) {o : Outcome} {memory : Memory} {room′ : List ℕ} → 272 ≤ length room
-    → Did (settingBy st r side) noMemory octets room o memory room′ → take (o .forwarded) room′ ≡ sentBy st r side octets
-unfolding sentBy
-step-sends st r side octets room {o} {memory} {room′} h x =
-    let k : Setting = settingBy st r side in
-    let remembered : List ℕ = recalled (sideOf noMemory side) in
-    let y : Heard = heard k octets (length room) in
-    let n : o .forwarded ≡ length (sent k remembered y) = ap (λ (z : Outcome). z .forwarded) (x .handed .outcome) ∙ sent-size k remembered y in
+step-sends : (k : Setting) (memory : Memory) (octets room : List ℕ) {o : Outcome} {memory′ : Memory} {room′ : List ℕ} → Did k memory octets room o memory′ room′
+    → take (o .forwarded) room′ ≡ sent k (recalled (sideOf memory (k .side))) (heard k octets (length room))
+step-sends k memory octets room {o} {memory′} {room′} x =
+    let remembered : List ℕ = recalled (sideOf memory (k .side)) in
+    let onward : List ℕ = sent k remembered (heard k octets (length room)) in
+    let n : o .forwarded ≡ length onward = ap (λ (z : Outcome). z .forwarded) (x .handed .outcome) ∙ sent-size k remembered (heard k octets (length room)) in
     ap (λ (i : ℕ). take i room′) n
-    ∙ ap (take (length (sent k remembered y))) (x .handed .left)
-    ∙ take-at (sent k remembered y) (drop (length (sent k remembered y)) room) (length (sent k remembered y)) refl
-    ∙ ap (sent k remembered) (heard-room k octets (length room) h)
+    ∙ ap (take (length onward)) (x .handed .left)
+    ∙ take-at onward (drop (length onward) room) (length onward) refl
 
-module _ (st : Stores) (site : List ℕ) (w : firstOf (siteTests st site) ≡ pass) (m : Meaning) (p : List ℕ) (v : Valid m p) (new : m .first ≡ true) (n side : ℕ) (h : side < 2) where
-  heard-by : isFitted (couplerOf n (recordsOf site)) ≡ true → heard (settingBy st (couplerOf n (recordsOf site)) side) (tp1Octets m p) 272 ≡ frame m p
-  heard-by e =
-      let r : List ℕ = couplerOf n (recordsOf site) in
-      heard-frame (settingBy st r side) m p v (set-passes st n r (fitted-set st site w n e) side h) (no-ip (eqb side 0))
+done : (k : Setting) (memory : Memory) (s room : List ℕ)
+    → Did k memory s room (outcomeOf k (recalled (sideOf memory (k .side))) (heard k s (length room))) (memoryAfter k memory s (heard k s (length room))) (over (sent k (recalled (sideOf memory (k .side))) (heard k s (length room))) room)
+done k memory s room = record { handed = record { outcome = refl; left = refl }; memory = refl }
 
-  sent-by : isFitted (couplerOf n (recordsOf site)) ≡ true
-      → sentBy st (couplerOf n (recordsOf site)) side (tp1Octets m p) ≡ sent (settingBy st (couplerOf n (recordsOf site)) side) (recalled (sideOf noMemory side)) (frame m p)
-  unfolding sentBy
-  sent-by e = ap (sent (settingBy st (couplerOf n (recordsOf site)) side) (recalled (sideOf noMemory side))) (heard-by e)
+-- a room that is just large enough
+unfoldable aRoom : List ℕ
+aRoom = replicate 272 0
 
-  pub hands-passes : (onward : List ℕ) → Hands st site n side (tp1Octets m p) onward
-      → (lineLetsPass st (m .group) (m .destination) (recordsOf site) side n ≡ true) × ((m .count ≡ 0 → ⊥) × (onward ≡ tp1Octets (forwardedMeaning m) p))
-  unfolding lineLetsPass recordPasses
-  hands-passes onward x =
-      let r : List ℕ = couplerOf n (recordsOf site) in
-      let k : Setting = settingBy st r side in
-      let remembered : List ℕ = recalled (sideOf noMemory side) in
-      let e : sent k remembered (frame m p) ≡ onward = sym (sent-by (x .fitted)) ∙ x .sends in
-      let l : Forwardable k remembered m = forwarded-iff k remembered (frame m p) .0 (λ z. x .some (ap length (sym e) ∙ z)) in
-      (rw (x .fitted, l .passes) refl, (l .counted, sym e ∙ sent-is k remembered m p l ∙ on-tp1 k m p (no-ip (eqb side 1))))
+room-enough : 272 ≤ length aRoom
+unfolding aRoom
+room-enough = omega arith
 
-  pub passes-hands : lineLetsPass st (m .group) (m .destination) (recordsOf site) side n ≡ true → (m .count ≡ 0 → ⊥)
-      → Hands st site n side (tp1Octets m p) (tp1Octets (forwardedMeaning m) p)
-  unfolding lineLetsPass recordPasses
-  passes-hands a c =
-      let r : List ℕ = couplerOf n (recordsOf site) in
-      let k : Setting = settingBy st r side in
-      let remembered : List ℕ = recalled (sideOf noMemory side) in
-      let q = and-true (isFitted r) (mayPass (lineOf r) (codesOf r) (tableOf (tableNumber r) st) side (m .group) (m .destination)) a in
-      let l : Forwardable k remembered m = record { passes = q .1; counted = c; new = rw (first-new remembered m new) (no-ip (not (fromIp k))) } in
-      record {
-        fitted = q .0;
-        sends = sent-by (q .0) ∙ sent-is k remembered m p l ∙ on-tp1 k m p (no-ip (eqb side 1));
-        some = λ z. omega (arith, length-octets (forwardedMeaning m) p);
-      }
+-- a step that forwards has found nothing wrong with its settings
+forwards-set : (k : Setting) (remembered s : List ℕ) (room : ℕ) → Forwards k remembered (heard k s room) → firstOf (settingTests k room) ≡ pass
+unfolding heard
+forwards-set k remembered s room = go (firstOf (settingTests k room))
+  where
+    go : (v : Verdict) → Forwards k remembered (after v (readBy (fromIp k) s)) → v ≡ pass
+    go pass f = refl
+    go (refuse r) f = absurd f
+
+module _ (w : AtWork) (ok : firstOf (siteTests (w .stores) (w .site)) ≡ pass) (x : Crossing) where
+  abbrev fitting : List ℕ
+  fitting = couplerOf (x .line) (recordsOf (w .site))
+
+  abbrev setting : Setting
+  setting = settingBy w fitting (x .direction)
+
+  abbrev recollected : List ℕ
+  recollected = recalled (sideOf (w .memories (x .line)) (x .direction))
+
+  set : isFitted fitting ≡ true → IsSet (w .stores) (x .line) fitting
+  set e = fitted-set (w .stores) (w .site) ok (x .line) e
+
+  -- a crossing that is made is over the coupler of a line other than 00h, in one of the two directions
+  pub hands-line : {octets onward : List ℕ} → Hands w x octets onward → x .line ≡ 0 → ⊥
+  hands-line h = fitted-line (w .stores) (x .line) fitting (set (h .fitted))
+
+  hands-forwards : {octets onward : List ℕ} (h : Hands w x octets onward) → Forwards setting recollected (heard setting octets (length (h .room)))
+  hands-forwards {octets} h =
+      let y : Heard = heard setting octets (length (h .room)) in
+      forwarded-iff setting recollected y .0
+      (λ z. h .some (ap length (sym (h .sends) ∙ step-sends setting (w .memories (x .line)) octets (h .room) (h .steps)) ∙ sym (sent-size setting recollected y) ∙ z))
+
+  pub hands-side : {octets onward : List ℕ} → Hands w x octets onward → x .direction < 2
+  hands-side {octets} h =
+      let e = passed-iff (settingTests setting (length (h .room))) .0 (forwards-set setting recollected octets (length (h .room)) (hands-forwards h)) in
+      ltb-true (x .direction) 2 (and-true (ltb (x .direction) 2) (ltb (setting .medium) 2) (not-false (ltb (x .direction) 2 && ltb (setting .medium) 2) (e .1 .1 .0)) .0)
+
+  module _ (m : Meaning) (p : List ℕ) (v : Valid m p) where
+    heard-by : isFitted fitting ≡ true → x .direction < 2 → (room : ℕ) → 272 ≤ room → heard setting (formOn w (fromLine x) m p) room ≡ frame m p
+    unfolding heard
+    heard-by e l room n =
+        let s : List ℕ = formOn w (fromLine x) m p in
+        ap (λ (v : Verdict). after v (readBy (fromIp setting) s)) (set-passes w (x .line) fitting (set e) (x .direction) room l n)
+        ∙ ap (λ (ip : Bool). readBy ip s)
+        (ap (λ (n : ℕ). eqb (x .direction) 0 && eqb (cond (isIp w (mainSide n)) 1 0) 1) (set e .place) ∙ from-medium w (x .line) (x .direction) (fitted-line (w .stores) (x .line) fitting (set e)) l)
+        ∙ form-on-read w (fromLine x) m p v
+
+    onward-form : isFitted fitting ≡ true → x .direction < 2 → forwardedOctets setting m p ≡ formOn w (toLine x) (forwardedMeaning m) p
+    unfolding formOf formOn
+    onward-form e l =
+        ap (λ (ip : Bool). cond ip (routingOctets (indication (forwardedMeaning m)) p) (tp1Octets (forwardedMeaning m) p))
+        (ap (λ (n : ℕ). eqb (x .direction) 1 && eqb (cond (isIp w (mainSide n)) 1 0) 1) (set e .place) ∙ to-medium w (x .line) (x .direction) (fitted-line (w .stores) (x .line) fitting (set e)) l)
+
+    pub hands-passes : (onward : List ℕ) → Hands w x (formOn w (fromLine x) m p) onward
+        → (lineLetsPass (w .stores) (m .group) (m .destination) (recordsOf (w .site)) (x .direction) (x .line) ≡ true) × ((m .count ≡ 0 → ⊥) × (onward ≡ formOn w (toLine x) (forwardedMeaning m) p))
+    unfolding lineLetsPass recordPasses
+    hands-passes onward h =
+        let s : List ℕ = formOn w (fromLine x) m p in
+        let side = hands-side h in
+        let e : heard setting s (length (h .room)) ≡ frame m p = heard-by (h .fitted) side (length (h .room)) (h .enough) in
+        let l : Forwardable setting recollected m = subst (Forwards setting recollected) e (hands-forwards h) in
+        let o : onward ≡ formOn w (toLine x) (forwardedMeaning m) p =
+        sym (h .sends)
+        ∙ step-sends setting (w .memories (x .line)) s (h .room) (h .steps)
+        ∙ ap (sent setting recollected) e
+        ∙ sent-is setting recollected m p l
+        ∙ onward-form (h .fitted) side in
+        (rw (h .fitted, l .passes) refl, (l .counted, o))
+
+    pub passes-hands : m .first ≡ true → x .direction < 2 → lineLetsPass (w .stores) (m .group) (m .destination) (recordsOf (w .site)) (x .direction) (x .line) ≡ true → (m .count ≡ 0 → ⊥)
+        → Hands w x (formOn w (fromLine x) m p) (formOn w (toLine x) (forwardedMeaning m) p)
+    unfolding lineLetsPass recordPasses
+    passes-hands new side a c =
+        let s : List ℕ = formOn w (fromLine x) m p in
+        let q = and-true (isFitted fitting) (mayPass (lineOf fitting) (codesOf fitting) (tableOf (tableNumber fitting) (w .stores)) (x .direction) (m .group) (m .destination)) a in
+        let h : Heard = heard setting s (length aRoom) in
+        let e : h ≡ frame m p = heard-by (q .0) side (length aRoom) room-enough in
+        let l : Forwardable setting recollected m = record { passes = q .1; counted = c; new = rw (first-new recollected m new) (and-false (not (fromIp setting))) } in
+        let did = done setting (w .memories (x .line)) s aRoom in
+        let o : sent setting recollected (frame m p) ≡ formOn w (toLine x) (forwardedMeaning m) p = sent-is setting recollected m p l ∙ onward-form (q .0) side in
+        record {
+          fitted = q .0;
+          room = aRoom;
+          enough = room-enough;
+          outcome = outcomeOf setting recollected h;
+          memory = memoryAfter setting (w .memories (x .line)) s h;
+          left = over (sent setting recollected h) aRoom;
+          steps = did;
+          sends = step-sends setting (w .memories (x .line)) s aRoom did ∙ ap (sent setting recollected) e ∙ o;
+          some = λ z. forwarded-iff setting recollected (frame m p) .1 l (ap length o ∙ z);
+        }
 
 -- one crossing more
 
-lasts-more : (c d : ℕ) → lasts c (suc d) ≡ true ↔ ((lasts c d ≡ true) × (onArrival c d ≡ 0 → ⊥))
-unfolding lasts onArrival
-lasts-more c d = go (eqb c 7)
-  where
-    go : (b : Bool) → b || leb (suc d) c ≡ true ↔ ((b || leb d c ≡ true) × (cond b 7 (c - d) ≡ 0 → ⊥))
-    go true = ((λ e. (refl, λ z. omega arith)), λ x. refl)
-    go false = (
-      (λ e. let l : suc d ≤ c = leb-true (suc d) c e in (le-leb d c (omega arith), λ z. omega arith)),
-      (λ x. le-leb (suc d) c (omega (arith, leb-true d c (x .0), x .1))),
-    )
+lasts-more : (c d : ℕ) → lasts c (suc d) ≡ lasts c d && not (eqb (onArrival c d) 0)
+lasts-more c d =
+    by-cases (lasts c d)
+    (λ e. rw e (sym (left-lasts c d e)))
+    (λ e. rw e (ap (lasts c) (sym (add-one d)) ∙ lasts-less c d 1 e))
 
 pub hopped-more : (c d : ℕ) → c < 8 → hopped (onArrival c d) ≡ onArrival c (suc d)
 unfolding onArrival
@@ -138,17 +219,13 @@ hopped-more c d h =
     let q : eqb (c - d) 7 ≡ false = ne-eqb (c - d) 7 (λ z. omega (arith, n)) in
     rw (e, q) (omega arith))
 
-and-assoc : (a b c : Bool) → (a && b) && c ≡ a && (b && c)
-and-assoc true b c = refl
-and-assoc false b c = refl
-
 pub all-more : (f : Crossing → Bool) (xs : List Crossing) (x : Crossing) → allPass f (xs ++ (x ∷ [])) ≡ allPass f xs && f x
 all-more f [] x = and-one (f x)
   where
     and-one : (a : Bool) → a && true ≡ a
     and-one true = refl
     and-one false = refl
-all-more f (y ∷ xs) x = rw (all-more f xs x, and-assoc) refl
+all-more f (y ∷ xs) x = by-cases (f y) (λ e. rw e (all-more f xs x)) (λ e. rw e refl)
 
 pub distance-more : (s t u : ℕ) (x : Crossing) → path s t ≡ path s u ++ (x ∷ []) → distance s t ≡ suc (distance s u)
 unfolding distance
@@ -156,17 +233,14 @@ distance-more s t u x e = rw (e, length-append (path s u) (x ∷ [])) (omega ari
 
 -- a line is listed exactly if the line before it is, the coupler between lets the telegram pass and the count is not used up
 pub listed-more : (f : Crossing → Bool) (s c t u : ℕ) (x : Crossing) → path s t ≡ path s u ++ (x ∷ [])
-    → isListed f s c t ≡ true ↔ ((isListed f s c u ≡ true) × ((f x ≡ true) × (onArrival c (distance s u) ≡ 0 → ⊥)))
+    → isListed f s c t ≡ isListed f s c u && f x && not (eqb (onArrival c (distance s u)) 0)
 unfolding isListed
-listed-more f s c t u x e = (
-  (λ l.
-      let a = and-true (allPass f (path s t)) (lasts c (distance s t)) l in
-      let b = and-true (allPass f (path s u)) (f x) (sym (all-more f (path s u) x) ∙ ap (allPass f) (sym e) ∙ a .0) in
-      let d = lasts-more c (distance s u) .0 (ap (lasts c) (sym (distance-more s t u x e)) ∙ a .1) in
-      (rw (b .0, d .0) refl, (b .1, d .1))),
-  (λ y.
-      let a = and-true (allPass f (path s u)) (lasts c (distance s u)) (y .0) in
-      let p : allPass f (path s t) ≡ true = ap (allPass f) e ∙ all-more f (path s u) x ∙ rw (a .0, y .1 .0) refl in
-      let q : lasts c (distance s t) ≡ true = ap (lasts c) (distance-more s t u x e) ∙ lasts-more c (distance s u) .1 (a .1, y .1 .1) in
-      rw (p, q) refl),
-)
+listed-more f s c t u x e =
+    rw (distance-more s t u x e, e, all-more f (path s u) x, lasts-more c (distance s u))
+    (sorted (allPass f (path s u)) (f x) (lasts c (distance s u)) (not (eqb (onArrival c (distance s u)) 0)))
+  where
+    sorted : (a b c d : Bool) → a && b && (c && d) ≡ a && c && b && d
+    sorted true true true d = refl
+    sorted true true false d = refl
+    sorted true false c d = sym (rw (and-false c) refl)
+    sorted false b c d = refl

@@ -4,6 +4,7 @@ pub mod RoomLaws
 pub mod WalkingLaws
 pub mod Explained
 pub mod ListLaws
+pub mod Standing
 pub mod ListedBy
 pub mod Fitted
 pub mod Handing

@@ -1,7 +1,7 @@
 -- Laws of the tree of lines and of the path between two of them. Every law about main sides goes by `by-mains`: from 00h, and from a
 -- line's main side to the line.
 use Prim.Native.Nat.{ℕ, zero, suc, _+_, _%_, _≤_, _<_}
-use mathlib.Core.Bool.{Bool, true, false, _||_}
+use mathlib.Core.Bool.{Bool, true, false, not, _||_}
 use mathlib.Core.List.{List, [], _∷_, _++_, append-assoc}
 use mathlib.Core.Path.{_≡_, refl, sym, ap, _∙_, subst}
 use native.Mathlib.Omega.{arith}
@@ -9,7 +9,7 @@ use lib.Dec.{eqb}
 use lib.ListN.{length, length-append}
 use borrow.Author.Tests.{eqb-true, eqb-false, eq-eqb, ne-eqb}
 use Rattle.site.specs.WellFormed.{isAmong}
-use Rattle.tracer.specs.Lines.{mainSide, depth, mainSides, beforeCommon, up, down, upOver, downOver, path, distance}
+use Rattle.tracer.specs.Lines.{mainSide, depth, mainSides, beforeCommon, Crossing, up, down, upOver, downOver, cameOver, path, distance}
 use Rattle.tracer.specs.Reaching.{climbing}
 
 pub by-cases : {P : Type 0} (b : Bool) → (b ≡ true → P) → (b ≡ false → P) → P
@@ -215,6 +215,51 @@ climb-more n s k =
 
 pub path-up : (s n : ℕ) → isAmong n (mainSides s) ≡ true → (n ≡ 0 → ⊥) → path s (mainSide n) ≡ path s n ++ (up n ∷ [])
 path-up s n e h = rw (path-climb s n e, path-climb s (mainSide n) (on-main n s e)) (climb-more n s h e)
+
+-- the last coupler of a path
+
+last-over : (xs : List Crossing) (x : Crossing) (n : ℕ) → cameOver (xs ++ (x ∷ [])) n ≡ eqb (x .line) n
+last-over [] x n = refl
+last-over (y ∷ []) x n = refl
+last-over (y ∷ z ∷ xs) x n = last-over (z ∷ xs) x n
+
+-- a line above s that is not s is the main side of another
+pub above-of : (s t : ℕ) → isAmong t (mainSides s) ≡ true → (s ≡ t → ⊥) → (n : ℕ) × ((n ≡ 0 → ⊥) × ((isAmong n (mainSides s) ≡ true) × (t ≡ mainSide n)))
+above-of s t =
+    by-mains (λ s. isAmong t (mainSides s) ≡ true → (s ≡ t → ⊥) → (n : ℕ) × ((n ≡ 0 → ⊥) × ((isAmong n (mainSides s) ≡ true) × (t ≡ mainSide n))))
+    (λ a d. absurd (d (omega (arith, on-below t 0 a))))
+    (λ s h ih a d.
+    let u : isAmong t (mainSides (mainSide s)) ≡ true = on-next t s d a .1 in
+    by-cases (eqb (mainSide s) t)
+    (λ x. (s, (h, (on-self s, sym (eqb-true (mainSide s) t x)))))
+    (λ x. let y = ih u (eqb-false (mainSide s) t x) in (y .0, (y .1 .0, (rw (mains-cons s h) (or-right (eqb s (y .0)) _ (y .1 .1 .0)), y .1 .1 .1)))))
+    s
+
+-- to a line above s it leads up, over the coupler of a line that has that one for its main side
+over-above : (s t n : ℕ) → isAmong t (mainSides s) ≡ true → ((k : ℕ) → (k ≡ 0 → ⊥) → isAmong k (mainSides s) ≡ true → t ≡ mainSide k → k ≡ n → ⊥) → cameOver (path s t) n ≡ false
+over-above s t n q none =
+    by-cases (eqb s t)
+    (λ e. rw (eqb-true s t e, path-same) refl)
+    (λ e.
+    let a = above-of s t q (eqb-false s t e) in
+    rw (a .1 .1 .1, path-up s (a .0) (a .1 .1 .0) (a .1 .0), last-over) (ne-eqb (a .0) n (none (a .0) (a .1 .0) (a .1 .1 .0) (a .1 .1 .1))))
+
+-- so a path comes to a line over its own coupler exactly if the line is not above s, and to its main side exactly if it is
+
+pub over-own : (s n : ℕ) → (n ≡ 0 → ⊥) → cameOver (path s n) n ≡ not (isAmong n (mainSides s))
+over-own s n h =
+    by-cases (isAmong n (mainSides s))
+    (λ q. rw q (over-above s n n q (λ k hk a e z. omega (arith, main-below k hk))))
+    (λ q. rw (q, path-down s n q, last-over) (eq-eqb n n refl))
+
+pub over-main : (s n : ℕ) → (n ≡ 0 → ⊥) → cameOver (path s (mainSide n)) n ≡ isAmong n (mainSides s)
+over-main s n h =
+    by-cases (isAmong n (mainSides s))
+    (λ q. rw (q, path-up s n q h, last-over) (eq-eqb n n refl))
+    (λ q. rw q
+    (by-cases (isAmong (mainSide n) (mainSides s))
+    (λ a. over-above s (mainSide n) n a (λ k hk b e z. never (sym b ∙ ap (λ (i : ℕ). isAmong i (mainSides s)) z ∙ q)))
+    (λ a. rw (path-down s (mainSide n) a, last-over) (ne-eqb (mainSide n) n (λ z. omega (arith, main-below n h))))))
 
 -- each half has at most as many couplers as its line lies deep
 

@@ -35,7 +35,7 @@ along-zero f c [] = refl
 along-zero f c (x ∷ p) = rw (handed-zero c (f x)) (along-zero f c p)
 
 -- a count that lasts for so many couplers lasts for fewer
-lasts-less : (c d k : ℕ) → lasts c d ≡ false → lasts c (d + k) ≡ false
+pub lasts-less : (c d k : ℕ) → lasts c d ≡ false → lasts c (d + k) ≡ false
 unfolding lasts
 lasts-less c d k = by-cases (eqb c 7) (λ e. rw e (λ h. h)) (λ e. rw e (λ h. lt-leb (d + k) c (omega (arith, leb-false d c h))))
 

@@ -1,66 +1,61 @@
--- What the couplers of a site do: a first sending put on the starting line is handed on from line to line by each coupler's step, the
--- memory empty, never back over the coupler by which it came. Both sides of every coupler are TP1.
-use Prim.Native.Nat.{ℕ}
-use mathlib.Core.Bool.{true, cond}
-use mathlib.Core.List.{List}
+-- What the couplers of a site do: a first sending put on the starting line is handed on from line to line by each coupler's step, whatever
+-- that coupler remembers, never back over the coupler by which it came. The backbone, line 00h, is TP1 or IP; every other line is TP1.
+use Prim.Native.Nat.{ℕ, _≤_}
+use mathlib.Core.Bool.{Bool, true, false, cond, _&&_}
+use mathlib.Core.List.{List, [], _∷_, _++_}
 use mathlib.Core.Path.{_≡_}
-use lib.ListN.{length}
-use Rattle.coupler.specs.Memory.{recalled, noMemory, sideOf}
-use Rattle.coupler.specs.Step.{Setting, settingOf, heard, sent}
+use lib.Dec.{eqb}
+use lib.ListN.{length, take}
+use Rattle.coupler.specs.Step.{Setting, settingOf, readBy, indication, Did, frame}
+use Rattle.coupler.specs.declared.Memory.{Memory}
+use Rattle.coupler.specs.declared.Outcome.{Outcome}
 use Rattle.frame.specs.declared.Meaning.{Meaning}
+use Rattle.routing.specs.Layout.{routingOctets}
 use Rattle.site.specs.Records.{recordsOf, lineOf, codesOf, tableNumber, couplerOf, isFitted}
 use Rattle.site.specs.Stores.{Stores, tableOf}
-use Rattle.tp1.specs.Reading.{readTp1}
-use Rattle.tp1.specs.declared.Tp1Answer.the-variants.{Frame}
-use Rattle.tracer.specs.Lines.{mainSide, distance}
-use Rattle.tracer.specs.Listing.{Query, queryOf, crossingPasses, isListed, onArrival}
+use Rattle.tp1.specs.Layout.{tp1Octets}
+use Rattle.tracer.specs.Lines.{mainSide, Crossing, fromLine, toLine, cameOver}
+use Rattle.tracer.specs.Listing.{Query, queryOf}
 
--- a coupler as its record in the site sets it, with a frame received from a side (0 main, 1 sub)
-abbrev pub settingBy : Stores → List ℕ → ℕ → Setting
-settingBy st r side = settingOf (lineOf r) (codesOf r) (tableOf (tableNumber r) st) side 0
+-- a site at work: its stores and records, what the coupler of each line remembers (anything, also what no frame is), and whether the
+-- backbone is on IP
+pub record AtWork : Type 0 where
+  pub stores : Stores
+  pub site : List ℕ
+  pub memories : ℕ → Memory
+  pub onIp : Bool
 
--- what its step sends of these octets, no frame being remembered, into a room of 272
-unfoldable pub sentBy : Stores → List ℕ → ℕ → List ℕ → List ℕ
-sentBy st r side octets = sent (settingBy st r side) (recalled (sideOf noMemory side)) (heard (settingBy st r side) octets 272)
+-- "The main side is TP1 or IP; the sub side is TP1": so of all lines 00h alone may be IP, being nobody's sub side
+abbrev pub isIp : AtWork → ℕ → Bool
+isIp w line = w .onIp && eqb line 0
 
--- the coupler of a line is fitted, and of octets that come to its side it sends these onward
-pub record Hands (st : Stores) (site : List ℕ) (line side : ℕ) (octets onward : List ℕ) : Type 0 where
-  pub fitted : isFitted (couplerOf line (recordsOf site)) ≡ true
-  pub sends : sentBy st (couplerOf line (recordsOf site)) side octets ≡ onward
+-- a telegram in the form of a line: a TP1 frame, or "on IP .. a plain indication in a routing datagram"
+unfoldable pub formOn : AtWork → ℕ → Meaning → List ℕ → List ℕ
+formOn w line m p = cond (isIp w line) (routingOctets (indication m) p) (tp1Octets m p)
+
+-- the coupler of a line as its record in the site sets it, with a frame received from a side (0 main, 1 sub); its main medium is that of the
+-- line on its main side (0 TP1, 1 IP)
+abbrev pub settingBy : AtWork → List ℕ → ℕ → Setting
+settingBy w r side = settingOf (lineOf r) (codesOf r) (tableOf (tableNumber r) (w .stores)) side (cond (isIp w (mainSide (lineOf r))) 1 0)
+
+-- a crossing is made: the coupler is fitted, and a call of its step that is given these octets, received from the side that the crossing
+-- leads from, leaves these others to be sent onward (a room below 272 would be refused)
+pub record Hands (w : AtWork) (x : Crossing) (octets onward : List ℕ) : Type 0 where
+  pub fitted : isFitted (couplerOf (x .line) (recordsOf (w .site))) ≡ true
+  pub room : List ℕ
+  pub enough : 272 ≤ length room
+  pub outcome : Outcome
+  pub memory : Memory
+  pub left : List ℕ
+  pub steps : Did (settingBy w (couplerOf (x .line) (recordsOf (w .site))) (x .direction)) (w .memories (x .line)) octets room outcome memory left
+  pub sends : take (outcome .forwarded) left ≡ onward
   pub some : length onward ≡ 0 → ⊥
 
--- how octets came onto a line: put there, or over the coupler of a line
-pub data Way : Type 0 where
-  putThere : Way
-  cameOver : ℕ → Way
-
--- these octets come onto this line in this way, the first ones having been put on the starting line
-pub data Arrives (st : Stores) (site : List ℕ) (start : ℕ) (first : List ℕ) : ℕ → List ℕ → Way → Type 0 where
-  at-start : Arrives st site start first start first putThere
-  -- the coupler of line n has n on its sub side ..
-  handed-up : {n : ℕ} {octets onward : List ℕ} {way : Way} → Arrives st site start first n octets way → (way ≡ cameOver n → ⊥) → Hands st site n 1 octets onward
-      → Arrives st site start first (mainSide n) onward (cameOver n)
-  -- .. and the main side of n on its main side
-  handed-down : {n : ℕ} {octets onward : List ℕ} {way : Way} → Arrives st site start first (mainSide n) octets way → (way ≡ cameOver n → ⊥) → Hands st site n 0 octets onward
-      → Arrives st site start first n onward (cameOver n)
-
--- a frame with this count arrives on a line
-pub record ArrivesWith (st : Stores) (site : List ℕ) (start : ℕ) (first : List ℕ) (line count : ℕ) : Type 0 where
-  pub octets : List ℕ
-  pub way : Way
-  pub meaning : Meaning
-  pub arrives : Arrives st site start first line octets way
-  pub reads : readTp1 octets ≡ Frame meaning
-  pub counts : meaning .count ≡ count
-
--- the query about a telegram of this meaning, put on the starting line
-abbrev pub askedOf : ℕ → Meaning → Query
-askedOf start m = queryOf start (cond (m .group) 1 0) (m .destination) (m .count)
-
--- the tracer lists a line with this count on arrival
-pub record ListedWith (st : Stores) (site : List ℕ) (q : Query) (line count : ℕ) : Type 0 where
-  pub lists : isListed (crossingPasses st site q) (q .start) (q .count) line ≡ true
-  pub counts : onArrival (q .count) (distance (q .start) line) ≡ count
+-- these octets come onto this line over these couplers, one after the other, the first ones having been put on the starting line
+pub data Arrives (w : AtWork) (start : ℕ) (first : List ℕ) : ℕ → List ℕ → List Crossing → Type 0 where
+  put-there : Arrives w start first start first []
+  handed-on : {octets onward : List ℕ} {way : List Crossing} (x : Crossing) → Arrives w start first (fromLine x) octets way → cameOver way (x .line) ≡ false → Hands w x octets onward
+      → Arrives w start first (toLine x) onward (way ++ (x ∷ []))
 
 -- the same telegram with another count
 abbrev pub withCount : ℕ → Meaning → Meaning
@@ -73,3 +68,17 @@ withCount count m = record {
   destination = m .destination;
   count = count;
 }
+
+-- a telegram, put on the starting line, arrives on a line with this count, so many couplers having been crossed: in that line's form, and by
+-- the reader of that line's medium the very telegram with this count, all else being as it was
+pub record ArrivesWith (w : AtWork) (start : ℕ) (m : Meaning) (p : List ℕ) (line count crossed : ℕ) : Type 0 where
+  pub octets : List ℕ
+  pub way : List Crossing
+  pub arrives : Arrives w start (formOn w start m p) line octets way
+  pub laid : octets ≡ formOn w line (withCount count m) p
+  pub reads : readBy (isIp w line) octets ≡ frame (withCount count m) p
+  pub crosses : length way ≡ crossed
+
+-- the query about a telegram of this meaning, put on the starting line
+abbrev pub askedOf : ℕ → Meaning → Query
+askedOf start m = queryOf start (cond (m .group) 1 0) (m .destination) (m .count)

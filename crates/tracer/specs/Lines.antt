@@ -1,7 +1,7 @@
 -- Document 01: "The path between two lines follows main sides: the line of n, then its main side, and so on to 00h, likewise from the other,
 -- joined at the first line in common. Distance is the number of couplers on it".
 use Prim.Native.Nat.{ℕ, zero, suc, _-_, _%_}
-use mathlib.Core.Bool.{cond}
+use mathlib.Core.Bool.{Bool, false, cond}
 use mathlib.Core.List.{List, [], _∷_, _++_}
 use lib.Dec.{eqb}
 use lib.ListN.{length}
@@ -41,6 +41,19 @@ up n = crossing 1 n
 
 abbrev pub down : ℕ → Crossing
 down n = crossing 0 n
+
+-- the line that a crossing leads from, and the one that it leads to: "Its sub side is n."
+abbrev pub fromLine : Crossing → ℕ
+fromLine x = cond (eqb (x .direction) 0) (mainSide (x .line)) (x .line)
+
+abbrev pub toLine : Crossing → ℕ
+toLine x = cond (eqb (x .direction) 0) (x .line) (mainSide (x .line))
+
+-- whether the last coupler crossed is that of a line
+abbrev pub cameOver : List Crossing → ℕ → Bool
+cameOver [] line = false
+cameOver (x ∷ []) line = eqb (x .line) line
+cameOver (x ∷ y ∷ xs) line = cameOver (y ∷ xs) line
 
 -- up over the couplers of these lines, one after the other; down over them, the last one first
 abbrev pub upOver : List ℕ → List Crossing

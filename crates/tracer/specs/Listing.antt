@@ -1,9 +1,11 @@
 -- Demand 3: a line is listed exactly if every coupler on the path from the starting line to it is fitted and lets the telegram pass in its
 -- direction of travel, and the count c is 7 or the distance d at most c; in rising order, each once.
-use Prim.Native.Nat.{ℕ, zero, suc, _+_, _-_}
+use Prim.Native.Nat.{ℕ, zero, suc, _+_, _-_, _*_, _<_}
 use mathlib.Core.Bool.{Bool, true, cond, _&&_, _||_}
 use mathlib.Core.List.{List, [], _∷_, _++_}
+use mathlib.Core.Path.{_≡_}
 use lib.Dec.{ltb, leb, eqb}
+use lib.ListN.{take, drop}
 use Rattle.site.specs.Letting.{lineLetsPass}
 use Rattle.site.specs.Records.{recordsOf}
 use Rattle.site.specs.Stores.{Stores}
@@ -42,6 +44,12 @@ onArrival count crossed = cond (eqb count 7) 7 (count - crossed)
 unfoldable pub entry : (Crossing → Bool) → ℕ → ℕ → ℕ → List ℕ
 entry f start count line =
     cond (isListed f start count line) (line ∷ onArrival count (distance start line) ∷ distance start line ∷ []) []
+
+-- these three stand in a room, in one of its first places
+pub record StandsIn (room : List ℕ) (places line count crossed : ℕ) : Type 0 where
+  pub place : ℕ
+  pub among : place < places
+  pub three : take 3 (drop (place * 3) room) ≡ line ∷ count ∷ crossed ∷ []
 
 -- the lines below a number, in rising order: their entries, and how many of them are such
 abbrev pub eachBelow : (ℕ → List ℕ) → ℕ → List ℕ
