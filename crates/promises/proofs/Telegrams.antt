@@ -16,9 +16,9 @@ use Rattle.site.specs.Stores.{isStored, tableAt, tableOf, isStore, areStores}
 use Rattle.site.specs.WellFormed.{hasTable, siteTests}
 use Rattle.site.specs.Letting.{recordPasses, lineLetsPass}
 use Rattle.tracer.specs.Lines.{mainSide, depth, mainSides, path, distance}
-use Rattle.tracer.specs.Listing.{lasts, isListed, onArrival, entry, listed, linesListed, isForwardedTo, forwardings}
+use Rattle.tracer.specs.Listing.{lasts, isListed, onArrival, entry, listed, linesListed, isForwarding, forwardings}
 use Rattle.promises.specs.Telegrams.{Every, cases}
 
 pub every : Every cases
-unfolding checkOctet isControl controlOf ctrleOf fieldsMeaning head sealed tp1Octets isExtended headSize isOtherFormat isEscape frameSize isChecked meaningIn readTp1 body isOtherBody isEscapeBody isLongStandard bodySize messageIn isOtherHeader isOtherService isOtherLength readRouting classOf isCode isRow areCodes asksTable tableFits isOwn isInTable isBelow isRuled mayPass isRepetition heard acknowledgementBy formOf recordsOf isMarked codesOf couplerOf isStored tableAt tableOf isStore areStores hasTable siteTests recordPasses lineLetsPass mainSide depth mainSides path distance lasts isListed onArrival entry listed linesListed isForwardedTo forwardings
+unfolding checkOctet isControl controlOf ctrleOf fieldsMeaning head sealed tp1Octets isExtended headSize isOtherFormat isEscape frameSize isChecked meaningIn readTp1 body isOtherBody isEscapeBody isLongStandard bodySize messageIn isOtherHeader isOtherService isOtherLength readRouting classOf isCode isRow areCodes asksTable tableFits isOwn isInTable isBelow isRuled mayPass isRepetition heard acknowledgementBy formOf recordsOf isMarked codesOf couplerOf isStored tableAt tableOf isStore areStores hasTable siteTests recordPasses lineLetsPass mainSide depth mainSides path distance lasts isListed onArrival entry listed linesListed isForwarding forwardings
 every = ((refl, refl), ((refl, refl), ((refl, refl), ((refl, refl), ((refl, refl), ((refl, refl), ((refl, refl), ((refl, refl), ((refl, refl), ((refl, refl), ((refl, refl), ((refl, refl), ((refl, refl), ((refl, refl), ((refl, refl), ((refl, refl), ((refl, refl), tt)))))))))))))))))

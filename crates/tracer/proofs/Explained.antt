@@ -1,21 +1,22 @@
 -- What the explanation says: a line is reached exactly if it is listed; otherwise every coupler before the one named is fitted and lets the
 -- telegram pass, and that one does not hand it on, for the reason given. The walk carries the count, the list the couplers crossed.
-use Prim.Native.Nat.{ℕ, suc, _+_, _-_, _≤_}
+use Prim.Native.Nat.{ℕ, suc, _+_, _≤_}
 use mathlib.Core.Bool.{Bool, true, false, not, _&&_}
 use mathlib.Core.List.{List, [], _∷_, _++_}
 use mathlib.Core.Logic.{_↔_}
 use mathlib.Core.Path.{_≡_, refl, sym, ap, _∙_}
 use native.Mathlib.Omega.{arith}
-use lib.Dec.{ltb, leb, eqb}
+use lib.Dec.{ltb, eqb}
 use lib.ListN.{length}
-use borrow.Author.Tests.{leb-true, leb-false, eqb-true, eqb-false, lt-ltb, le-leb, eq-eqb, ne-eqb}
-use Rattle.coupler.specs.Passing.{hopped, doesPass}
+use borrow.Author.Tests.{lt-ltb}
+use Rattle.coupler.specs.Passing.{doesPass}
 use Rattle.coupler.specs.declared.Passage.{Passage}
 use Rattle.octets.proofs.Below.{and-true}
 use Rattle.site.proofs.LettingLaws.{passage-lets}
 use Rattle.site.specs.Letting.{passageAt}
 use Rattle.site.specs.Records.{recordsOf}
 use Rattle.site.specs.Stores.{Stores}
+use Rattle.tracer.proofs.CountLaws.{lasts-none, left-lasts, arrival-none, hopped-more}
 use Rattle.tracer.proofs.Paths.{by-cases}
 use Rattle.tracer.proofs.ReachingLaws.{along-zero, reach-reached}
 use Rattle.tracer.specs.Lines.{Crossing, path}
@@ -30,27 +31,6 @@ use Rattle.tracer.specs.declared.Walk.{Walk}
 abbrev pub isGoing : Walk → Bool
 isGoing (Going count) = true
 isGoing (Stopped stop) = false
-
--- "7, or c minus d": what is left is not used up exactly if the count lasts for one coupler more
-pub left-lasts : (c d : ℕ) → lasts c d ≡ true → not (eqb (onArrival c d) 0) ≡ lasts c (suc d)
-unfolding lasts onArrival
-left-lasts c d e =
-    by-cases (eqb c 7)
-    (λ s. rw s refl)
-    (λ s.
-    let h : d ≤ c = leb-true d c (rw s at e) in
-    by-cases (leb (suc d) c)
-    (λ l. rw (s, l, ne-eqb (c - d) 0 (λ z. omega (arith, leb-true (suc d) c l))) refl)
-    (λ l. rw (s, l, eq-eqb (c - d) 0 (omega (arith, leb-false (suc d) c l))) refl))
-
-left-hopped : (c d : ℕ) → c ≤ 7 → lasts c (suc d) ≡ true → hopped (onArrival c d) ≡ onArrival c (suc d)
-unfolding lasts onArrival
-left-hopped c d m e =
-    by-cases (eqb c 7)
-    (λ s. rw s refl)
-    (λ s.
-    let h : suc d ≤ c = leb-true (suc d) c (rw s at e) in
-    rw (s, ne-eqb (c - d) 7 (λ z. eqb-false c 7 s (omega arith))) (omega arith))
 
 stopped-stays : (st : Stores) (site : List ℕ) (group : Bool) (destination : ℕ) (stop : Stop) (xs : List Crossing)
     → walked st site group destination (Stopped stop) xs ≡ Stopped stop
@@ -78,24 +58,17 @@ module _ (st : Stores) (site : List ℕ) (q : Query) (m : q .count ≤ 7) where
       by-cases (f && lasts (q .count) (suc d))
       (λ t.
       let l : lasts (q .count) (suc d) ≡ true = and-true f (lasts (q .count) (suc d)) t .1 in
-      rw (k, lt-ltb 0 (suc d) (omega arith), t, left-hopped (q .count) d m l) (going (suc d) xs l))
+      rw (k, lt-ltb 0 (suc d) (omega arith), t, hopped-more (q .count) d m) (going (suc d) xs l))
       (λ n.
       rw (k, lt-ltb 0 (suc d) (omega arith), n)
       (ap isGoing (stopped-stays st site (eqb (q .kind) 1) (q .destination) (record { coupler = x .line; direction = x .direction; reason = p }) xs)
       ∙ sym (ap (λ (l : ℕ). ltb 0 l) (along-zero (crossingPasses st site q) (q .count) xs))))
 
-  from-start : (c : ℕ) → (lasts c 0 ≡ true) × (onArrival c 0 ≡ c)
-  unfolding lasts onArrival
-  from-start c =
-      by-cases (eqb c 7)
-      (λ s. (rw s refl, rw s (sym (eqb-true c 7 s))))
-      (λ s. (rw (s, le-leb 0 c (omega arith)) refl, rw s (omega arith)))
-
   going-listed : (line : ℕ) → isGoing (walk (Going (q .count)) (path (q .start) line)) ≡ isListed (crossingPasses st site q) (q .start) (q .count) line
   unfolding reach
   going-listed line =
-      ap (λ (c : ℕ). isGoing (walk (Going c) (path (q .start) line))) (sym (from-start (q .count) .1))
-      ∙ going 0 (path (q .start) line) (from-start (q .count) .0)
+      ap (λ (c : ℕ). isGoing (walk (Going c) (path (q .start) line))) (sym (arrival-none (q .count)))
+      ∙ going 0 (path (q .start) line) (lasts-none (q .count))
       ∙ reach-reached (crossingPasses st site q) (q .start) (q .count) line
 
   reached-going : (w : Walk) → whyBy w ≡ Reached → isGoing w ≡ true
@@ -134,7 +107,7 @@ module _ (st : Stores) (site : List ℕ) (q : Query) (m : q .count ≤ 7) where
       (λ t.
       let a = and-true (crossingPasses st site q x) (not (eqb k 0)) (sym (passage-lets st (eqb (q .kind) 1) (q .destination) (recordsOf site) (x .direction) (x .line) k) ∙ t) in
       let l : lasts (q .count) (suc d) ≡ true = sym (left-lasts (q .count) d h) ∙ a .1 in
-      let s = stopped-at (suc d) xs stop l (ap (λ (c : ℕ). walk (Going c) xs) (sym (left-hopped (q .count) d m l)) ∙ (rw t at e)) in
+      let s = stopped-at (suc d) xs stop l (ap (λ (c : ℕ). walk (Going c) xs) (sym (hopped-more (q .count) d m)) ∙ (rw t at e)) in
       let j : suc d + length (s .ahead) ≡ d + suc (length (s .ahead)) = omega arith in
       record {
         ahead = x ∷ s .ahead;
@@ -169,5 +142,5 @@ module _ (st : Stores) (site : List ℕ) (q : Query) (m : q .count ≤ 7) where
   pub not-reached : (line : ℕ) (stop : Stop) → whyOf st site q line ≡ NotReached stop → StoppedAt 0 (path (q .start) line) stop
   unfolding whyOf
   not-reached line stop e =
-      stopped-at 0 (path (q .start) line) stop (from-start (q .count) .0)
-      (ap (λ (c : ℕ). walk (Going c) (path (q .start) line)) (from-start (q .count) .1) ∙ stop-of (walk (Going (q .count)) (path (q .start) line)) stop e)
+      stopped-at 0 (path (q .start) line) stop (lasts-none (q .count))
+      (ap (λ (c : ℕ). walk (Going c) (path (q .start) line)) (arrival-none (q .count)) ∙ stop-of (walk (Going (q .count)) (path (q .start) line)) stop e)

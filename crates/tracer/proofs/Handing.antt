@@ -1,20 +1,19 @@
 -- One coupler: the step of a fitted coupler hands a valid first sending on exactly if the coupler lets it pass and its count is not used
--- up, and then with its count by the hop rule. And one crossing more on a path: what that asks of the list.
-use Prim.Native.Nat.{ℕ, zero, suc, _-_, _≤_, _<_}
+-- up, and then with its count by the hop rule.
+use Prim.Native.Nat.{ℕ, zero, suc, _≤_, _<_}
 use mathlib.Core.Bool.{Bool, true, false, not, cond, _&&_}
-use mathlib.Core.List.{List, [], _∷_, _++_}
+use mathlib.Core.List.{List}
 use mathlib.Core.Path.{_≡_, refl, sym, ap, _∙_, subst}
-use native.Mathlib.Numerals.{add-one}
 use native.Mathlib.Omega.{arith}
 use lib.Dec.{ltb, eqb}
-use lib.ListN.{length, take, drop, replicate, length-append}
+use lib.ListN.{length, take, drop, replicate}
 use lib.Seq.{take-at}
-use borrow.Author.Tests.{ltb-true, eqb-false, not-false, ne-eqb}
+use borrow.Author.Tests.{ltb-true, not-false, ne-eqb}
 use Rattle.cemi.specs.Writing.{messageInRange}
 use Rattle.cemi.specs.declared.CemiAnswer.{CemiAnswer}
 use Rattle.coupler.proofs.Promised.{Forwardable, Forwards, forwarded-iff, sent-is}
 use Rattle.coupler.specs.Memory.{recalled, sideOf, isRepetition}
-use Rattle.coupler.specs.Passing.{mayPass, hopped}
+use Rattle.coupler.specs.Passing.{mayPass}
 use Rattle.coupler.specs.Step.{Setting, settingTests, fromIp, Heard, heardTp1, heardIp, readBy, after, heard, forwardedMeaning, indication, formOf, forwardedOctets, outcomeOf, sent, memoryAfter, Did, frame, nothing}
 use Rattle.coupler.specs.declared.Memory.{Memory}
 use Rattle.coupler.specs.declared.Outcome.{Outcome}
@@ -33,13 +32,10 @@ use Rattle.site.specs.WellFormed.{siteTests}
 use Rattle.tp1.proofs.RoundTrip.{laid-read, laid-payload}
 use Rattle.tp1.specs.Layout.{tp1Octets}
 use Rattle.tp1.specs.declared.Tp1Answer.{Tp1Answer}
-use Rattle.tracer.proofs.Explained.{left-lasts}
 use Rattle.tracer.proofs.Fitted.{IsSet, fitted-set, fitted-line, set-passes}
-use Rattle.tracer.proofs.Paths.{by-cases}
-use Rattle.tracer.proofs.ReachingLaws.{and-false, lasts-less}
+use Rattle.tracer.proofs.ReachingLaws.{and-false}
 use Rattle.tracer.specs.Journey.{AtWork, isIp, formOn, settingBy, Hands}
-use Rattle.tracer.specs.Lines.{mainSide, Crossing, crossing, fromLine, toLine, path, distance}
-use Rattle.tracer.specs.Listing.{allPass, lasts, isListed, onArrival}
+use Rattle.tracer.specs.Lines.{mainSide, Crossing, crossing, fromLine, toLine}
 
 -- a telegram in the form of a medium, read by that medium's reader
 form-read : (ip : Bool) (m : Meaning) (p : List ℕ) → Valid m p → readBy ip (cond ip (routingOctets (indication m) p) (tp1Octets m p)) ≡ frame m p
@@ -64,21 +60,21 @@ first-new remembered m e = rw e
 
 -- the media of a coupler are those of the lines that a crossing leads from and to
 
-medium-ip : (b : Bool) → eqb (cond b 1 0) 1 ≡ b
-medium-ip true = refl
-medium-ip false = refl
+pub one-if : (b : Bool) → eqb (cond b 1 0) 1 ≡ b
+one-if true = refl
+one-if false = refl
 
 not-backbone : (w : AtWork) (n : ℕ) → (n ≡ 0 → ⊥) → isIp w n ≡ false
 not-backbone w n h = rw (ne-eqb n 0 h) (and-false (w .onIp))
 
 from-medium : (w : AtWork) (n side : ℕ) → (n ≡ 0 → ⊥) → side < 2 → eqb side 0 && eqb (cond (isIp w (mainSide n)) 1 0) 1 ≡ isIp w (fromLine (crossing side n))
-from-medium w n zero h l = medium-ip (isIp w (mainSide n))
+from-medium w n zero h l = one-if (isIp w (mainSide n))
 from-medium w n (suc zero) h l = sym (not-backbone w n h)
 from-medium w n (suc (suc side)) h l = absurd (omega arith)
 
 to-medium : (w : AtWork) (n side : ℕ) → (n ≡ 0 → ⊥) → side < 2 → eqb side 1 && eqb (cond (isIp w (mainSide n)) 1 0) 1 ≡ isIp w (toLine (crossing side n))
 to-medium w n zero h l = sym (not-backbone w n h)
-to-medium w n (suc zero) h l = medium-ip (isIp w (mainSide n))
+to-medium w n (suc zero) h l = one-if (isIp w (mainSide n))
 to-medium w n (suc (suc side)) h l = absurd (omega arith)
 
 -- what a call of the step leaves at the front of its room is what it sends
@@ -200,47 +196,3 @@ module _ (w : AtWork) (ok : firstOf (siteTests (w .stores) (w .site)) ≡ pass) 
           sends = step-sends setting (w .memories (x .line)) s aRoom did ∙ ap (sent setting recollected) e ∙ o;
           some = λ z. forwarded-iff setting recollected (frame m p) .1 l (ap length o ∙ z);
         }
-
--- one crossing more
-
-lasts-more : (c d : ℕ) → lasts c (suc d) ≡ lasts c d && not (eqb (onArrival c d) 0)
-lasts-more c d =
-    by-cases (lasts c d)
-    (λ e. rw e (sym (left-lasts c d e)))
-    (λ e. rw e (ap (lasts c) (sym (add-one d)) ∙ lasts-less c d 1 e))
-
-pub hopped-more : (c d : ℕ) → c < 8 → hopped (onArrival c d) ≡ onArrival c (suc d)
-unfolding onArrival
-hopped-more c d h =
-    by-cases (eqb c 7)
-    (λ e. rw e refl)
-    (λ e.
-    let n : c ≡ 7 → ⊥ = eqb-false c 7 e in
-    let q : eqb (c - d) 7 ≡ false = ne-eqb (c - d) 7 (λ z. omega (arith, n)) in
-    rw (e, q) (omega arith))
-
-pub all-more : (f : Crossing → Bool) (xs : List Crossing) (x : Crossing) → allPass f (xs ++ (x ∷ [])) ≡ allPass f xs && f x
-all-more f [] x = and-one (f x)
-  where
-    and-one : (a : Bool) → a && true ≡ a
-    and-one true = refl
-    and-one false = refl
-all-more f (y ∷ xs) x = by-cases (f y) (λ e. rw e (all-more f xs x)) (λ e. rw e refl)
-
-pub distance-more : (s t u : ℕ) (x : Crossing) → path s t ≡ path s u ++ (x ∷ []) → distance s t ≡ suc (distance s u)
-unfolding distance
-distance-more s t u x e = rw (e, length-append (path s u) (x ∷ [])) (omega arith)
-
--- a line is listed exactly if the line before it is, the coupler between lets the telegram pass and the count is not used up
-pub listed-more : (f : Crossing → Bool) (s c t u : ℕ) (x : Crossing) → path s t ≡ path s u ++ (x ∷ [])
-    → isListed f s c t ≡ isListed f s c u && f x && not (eqb (onArrival c (distance s u)) 0)
-unfolding isListed
-listed-more f s c t u x e =
-    rw (distance-more s t u x e, e, all-more f (path s u) x, lasts-more c (distance s u))
-    (sorted (allPass f (path s u)) (f x) (lasts c (distance s u)) (not (eqb (onArrival c (distance s u)) 0)))
-  where
-    sorted : (a b c d : Bool) → a && b && (c && d) ≡ a && c && b && d
-    sorted true true true d = refl
-    sorted true true false d = refl
-    sorted true false c d = sym (rw (and-false c) refl)
-    sorted false b c d = refl

@@ -1,15 +1,15 @@
 -- The list is what the couplers do. From arrival to list: the octets that arrive are the first sending with its count by the distance, over
 -- the couplers of the path, so that another coupler than the last makes the path longer. From list to arrival: along the path, by the
 -- distance.
-use Prim.Native.Nat.{ℕ, zero, suc, _-_, _<_}
-use mathlib.Core.Bool.{Bool, true, false, not, cond, _&&_}
+use Prim.Native.Nat.{ℕ, zero, suc, _<_}
+use mathlib.Core.Bool.{Bool, true, false, not, _&&_}
 use mathlib.Core.List.{List, [], _∷_, _++_}
 use mathlib.Core.Logic.{_↔_}
 use mathlib.Core.Path.{_≡_, refl, sym, ap, _∙_, subst}
 use native.Mathlib.Omega.{arith}
 use lib.Dec.{eqb}
 use lib.ListN.{length}
-use borrow.Author.Tests.{eqb-true, eqb-false, not-false, not-true, ne-eqb}
+use borrow.Author.Tests.{eqb-false, not-true, ne-eqb}
 use Rattle.coupler.specs.Passing.{hopped}
 use Rattle.coupler.specs.Step.{readBy, forwardedMeaning, frame}
 use Rattle.frame.proofs.Valid.{ranges-of, ranged}
@@ -18,68 +18,23 @@ use Rattle.frame.specs.Valid.{Valid}
 use Rattle.frame.specs.declared.Meaning.{Meaning}
 use Rattle.octets.proofs.Below.{and-true}
 use Rattle.octets.specs.Octets.{Octets}
-use Rattle.site.specs.Letting.{lineLetsPass}
-use Rattle.site.specs.Records.{recordsOf}
-use Rattle.site.specs.WellFormed.{isAmong, siteTests}
-use Rattle.tracer.proofs.Fitted.{fitted-set, fitted-below}
-use Rattle.tracer.proofs.Handing.{form-on-read, hands-line, hands-side, hands-passes, passes-hands, hopped-more, distance-more, listed-more}
+use Rattle.site.specs.Letting.{recordPasses, lineLetsPass}
+use Rattle.site.specs.Records.{recordsOf, couplerOf, isFitted}
+use Rattle.site.specs.WellFormed.{siteTests}
+use Rattle.tracer.proofs.CountLaws.{arrival-none, arrival-below, hopped-more}
+use Rattle.tracer.proofs.Crossings.{goes-on, last-of, distance-more, listed-more, forwarding-is}
+use Rattle.tracer.proofs.Fitted.{fitted-set, fitted-line, fitted-below}
+use Rattle.tracer.proofs.SoMany.{Counted, so-many}
+use Rattle.tracer.proofs.Handing.{one-if, form-on-read, hands-line, hands-side, hands-passes, passes-hands}
 use Rattle.tracer.proofs.ListLaws.{start-listed}
-use Rattle.tracer.proofs.Paths.{by-cases, never, main-below, on-zero, path-same, path-down, path-up, above-of, over-own, over-main, distance-zero}
+use Rattle.tracer.proofs.Paths.{by-cases, main-below, path-same, distance-same, distance-zero}
 use Rattle.tracer.proofs.Standing.{ListedWith}
-use Rattle.tracer.specs.Journey.{AtWork, isIp, formOn, Hands, Arrives, ArrivesWith, askedOf, withCount, put-there, handed-on}
-use Rattle.tracer.specs.Lines.{mainSide, mainSides, Crossing, up, down, crossing, fromLine, toLine, cameOver, path, distance}
-use Rattle.tracer.specs.Listing.{crossingPasses, isListed, onArrival}
-
-group-asked : (b : Bool) → eqb (cond b 1 0) 1 ≡ b
-group-asked true = refl
-group-asked false = refl
-
-distance-same : (s : ℕ) → distance s s ≡ 0
-unfolding distance
-distance-same s = ap length (path-same s)
-
-arrival-none : (c : ℕ) → onArrival c 0 ≡ c
-unfolding onArrival
-arrival-none c = by-cases (eqb c 7) (λ e. rw e (sym (eqb-true c 7 e))) (λ e. rw e (omega arith))
-
-arrival-below : (c d : ℕ) → c < 8 → onArrival c d < 8
-unfolding onArrival
-arrival-below c d h = go (eqb c 7)
-  where
-    go : (b : Bool) → cond b 7 (c - d) < 8
-    go true = omega arith
-    go false = omega arith
+use Rattle.tracer.specs.Journey.{AtWork, isIp, formOn, Hands, Arrives, Sends, SoMany, ArrivesWith, askedOf, withCount, put-there, handed-on}
+use Rattle.tracer.specs.Lines.{mainSide, Crossing, fromLine, toLine, cameOver, path, distance}
+use Rattle.tracer.specs.Listing.{crossingPasses, isListed, onArrival, isForwarding, forwardings}
 
 forwarded-with : (m : Meaning) (k : ℕ) → m .first ≡ true → forwardedMeaning (withCount k m) ≡ withCount (hopped k) m
 forwarded-with m k e = let f : true ≡ m .first = sym e in λ i. record { extended = m .extended; first = f i; priority = m .priority; source = m .source; group = m .group; destination = m .destination; count = hopped k }
-
--- a crossing that leads away from s, the coupler being another than the last one of the path, makes the path longer by itself, and the other
--- way round
-
-goes-on : (s side n : ℕ) → side < 2 → (n ≡ 0 → ⊥) → cameOver (path s (fromLine (crossing side n))) n ≡ false
-    → path s (toLine (crossing side n)) ≡ path s (fromLine (crossing side n)) ++ (crossing side n ∷ [])
-goes-on s zero n l h d = path-down s n (sym (over-main s n h) ∙ d)
-goes-on s (suc zero) n l h d = path-up s n (not-false (isAmong n (mainSides s)) (sym (over-own s n h) ∙ d)) h
-goes-on s (suc (suc side)) n l h d = absurd (omega arith)
-
--- the last crossing of the path to a line other than s
-pub record Last (s t : ℕ) : Type 0 where
-  pub last : Crossing
-  pub side : last .direction < 2
-  pub leads : toLine last ≡ t
-  pub longer : path s t ≡ path s (fromLine last) ++ (last ∷ [])
-  pub ahead : cameOver (path s (fromLine last)) (last .line) ≡ false
-
-pub last-of : (s t : ℕ) → (s ≡ t → ⊥) → Last s t
-last-of s t d =
-    by-cases (isAmong t (mainSides s))
-    (λ q.
-    let a = above-of s t q d in
-    let n : ℕ = a .0 in
-    record { last = up n; side = omega arith; leads = sym (a .1 .1 .1); longer = ap (path s) (a .1 .1 .1) ∙ path-up s n (a .1 .1 .0) (a .1 .0); ahead = over-own s n (a .1 .0) ∙ ap not (a .1 .1 .0) })
-    (λ q.
-    let h : t ≡ 0 → ⊥ = λ z. never (sym (on-zero s) ∙ ap (λ (x : ℕ). isAmong x (mainSides s)) (sym z) ∙ q) in
-    record { last = down t; side = omega arith; leads = refl; longer = path-down s t q; ahead = over-main s t h ∙ q })
 
 module _ (w : AtWork) (ok : firstOf (siteTests (w .stores) (w .site)) ≡ pass) (start : ℕ) (m : Meaning) (p : List ℕ) (v : Valid m p) (new : m .first ≡ true) where
   -- the first sending as it is after the couplers of the path to a line, and its form there
@@ -109,7 +64,7 @@ module _ (w : AtWork) (ok : firstOf (siteTests (w .stores) (w .site)) ≡ pass) 
       }
 
   asked : (x : Crossing) → passes x ≡ lineLetsPass (w .stores) (m .group) (m .destination) (recordsOf (w .site)) (x .direction) (x .line)
-  asked x = ap (λ (b : Bool). lineLetsPass (w .stores) b (m .destination) (recordsOf (w .site)) (x .direction) (x .line)) (group-asked (m .group))
+  asked x = ap (λ (b : Bool). lineLetsPass (w .stores) b (m .destination) (recordsOf (w .site)) (x .direction) (x .line)) (one-if (m .group))
 
   form-start : formThere start ≡ formOn w start m p
   form-start = ap (λ (k : ℕ). formOn w start (withCount k m) p) (ap (onArrival (m .count)) (distance-same start) ∙ arrival-none (m .count))
@@ -119,7 +74,7 @@ module _ (w : AtWork) (ok : firstOf (siteTests (w .stores) (w .site)) ≡ pass) 
     onward-is =
         ap (λ (y : Meaning). formOn w (toLine x) y p) (
         forwarded-with m (onArrival (m .count) (distance start (fromLine x))) new
-        ∙ ap (λ (k : ℕ). withCount k m) (hopped-more (m .count) (distance start (fromLine x)) counted ∙ ap (onArrival (m .count)) (sym (distance-more start (toLine x) (fromLine x) x e)))
+        ∙ ap (λ (k : ℕ). withCount k m) (hopped-more (m .count) (distance start (fromLine x)) (omega (arith, counted)) ∙ ap (onArrival (m .count)) (sym (distance-more start (toLine x) (fromLine x) x e)))
         )
 
     left : Bool
@@ -211,3 +166,62 @@ module _ (w : AtWork) (ok : firstOf (siteTests (w .stores) (w .site)) ≡ pass) 
       let n : x .line < 256 = fitted-below (w .stores) (w .site) (x .line) o (fitted-set (w .stores) (w .site) ok (x .line) (y .fitted)) in
       let l : mainSide (x .line) < 256 = omega (arith, main-below (x .line) (hands-line w ok x y)) in
       by-cases (eqb (x .direction) 0) (λ e. rw e n) (λ e. rw e l)
+
+  -- a coupler sends exactly if it makes a forwarding
+
+  fitted-at : (x : Crossing) → passes x ≡ true → isFitted (couplerOf (x .line) (recordsOf (w .site))) ≡ true
+  unfolding lineLetsPass
+  fitted-at x e =
+      let r : List ℕ = couplerOf (x .line) (recordsOf (w .site)) in
+      and-true (isFitted r) (recordPasses (w .stores) (m .group) (m .destination) (x .direction) r) (sym (asked x) ∙ e) .0
+
+  forwarding-fitted : (x : Crossing) → isForwarding passes start (m .count) x ≡ true → isFitted (couplerOf (x .line) (recordsOf (w .site))) ≡ true
+  unfolding isForwarding
+  forwarding-fitted x e =
+      let a = and-true (isListed passes start (m .count) (fromLine x) && not (cameOver (path start (fromLine x)) (x .line)) && passes x) (not (eqb (onArrival (m .count) (distance start (fromLine x))) 0)) e in
+      fitted-at x (and-true (isListed passes start (m .count) (fromLine x) && not (cameOver (path start (fromLine x)) (x .line))) (passes x) (a .0) .1)
+
+  abbrev FirstSends : Crossing → Type 0
+  FirstSends = Sends w start (formOn w start m p)
+
+  sends-forwarding : (x : Crossing) → FirstSends x → isForwarding passes start (m .count) x ≡ true
+  sends-forwarding x s =
+      let b = arrived (s .arrives) in
+      let e = longer x (b .along) (s .ahead) (s .hands) in
+      let z = step-lists x e (s .onward) (b .lists) (subst (λ (l : List ℕ). Hands w x l (s .onward)) (b .are) (s .hands)) in
+      let d : cameOver (path start (fromLine x)) (x .line) ≡ false = ap (λ (y : List Crossing). cameOver y (x .line)) (sym (b .along)) ∙ s .ahead in
+      forwarding-is passes start (m .count) (x .direction) (x .line) (hands-side w ok x (s .hands)) (hands-line w ok x (s .hands)) ∙ rw (d, z .0) refl
+
+  forwarding-sends : (x : Crossing) → x .direction < 2 → isForwarding passes start (m .count) x ≡ true → FirstSends x
+  forwarding-sends x side e =
+      let n : x .line ≡ 0 → ⊥ = fitted-line (w .stores) (x .line) (couplerOf (x .line) (recordsOf (w .site))) (fitted-set (w .stores) (w .site) ok (x .line) (forwarding-fitted x e)) in
+      let a = and-true (not (cameOver (path start (fromLine x)) (x .line))) (isListed passes start (m .count) (toLine x)) (sym (forwarding-is passes start (m .count) (x .direction) (x .line) side n) ∙ e) in
+      let d : cameOver (path start (fromLine x)) (x .line) ≡ false = not-true (cameOver (path start (fromLine x)) (x .line)) (a .0) in
+      let y = lists-step x (goes-on start (x .direction) (x .line) side n d) side (a .1) in
+      record { octets = formThere (fromLine x); onward = formThere (toLine x); way = path start (fromLine x); arrives = comes-by (distance start (fromLine x)) (fromLine x) refl (y .0); ahead = d; hands = y .1 }
+
+  pub sends-iff : (x : Crossing) → FirstSends x ↔ ((x .direction < 2) × (isForwarding passes start (m .count) x ≡ true))
+  sends-iff x = ((λ s. (hands-side w ok x (s .hands), sends-forwarding x s)), λ y. forwarding-sends x (y .0) (y .1))
+
+  -- and once
+  pub sends-once : (x : Crossing) (r s : FirstSends x) → (r .octets ≡ s .octets) × ((r .way ≡ s .way) × (r .onward ≡ s .onward))
+  sends-once x r s =
+      let a = arrived (r .arrives) in
+      let b = arrived (s .arrives) in
+      (a .are ∙ sym (b .are), (a .along ∙ sym (b .along), onward r ∙ sym (onward s)))
+    where
+      onward : (s : FirstSends x) → s .onward ≡ formThere (toLine x)
+      onward s = arrived (handed-on x (s .arrives) (s .ahead) (s .hands)) .are
+
+  -- "the number of forwardings made on the site" is the number of the couplers' sendings
+  pub sends-so-many : Octets (w .site) → SoMany FirstSends (forwardings (w .stores) (w .site) (askedOf start m))
+  unfolding forwardings
+  sends-so-many o = so-many FirstSends (isForwarding passes start (m .count)) 255 same
+    where
+      same : (x : Crossing) → FirstSends x ↔ Counted 255 (isForwarding passes start (m .count)) x
+      same x = (
+        (λ s.
+            let l : x .line < 256 = fitted-below (w .stores) (w .site) (x .line) o (fitted-set (w .stores) (w .site) ok (x .line) (s .hands .fitted)) in
+            record { side = hands-side w ok x (s .hands); some = hands-line w ok x (s .hands); most = omega arith; holds = sends-forwarding x s }),
+        (λ c. forwarding-sends x (c .side) (c .holds)),
+      )

@@ -1,8 +1,12 @@
 pub mod Paths
+pub mod CountLaws
 pub mod ReachingLaws
 pub mod RoomLaws
 pub mod WalkingLaws
 pub mod Explained
+pub mod Crossings
+pub mod Forwardings
+pub mod SoMany
 pub mod ListLaws
 pub mod Standing
 pub mod ListedBy

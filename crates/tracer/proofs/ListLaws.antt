@@ -11,10 +11,13 @@ use lib.Seq.{getD-append-seam}
 use borrow.Author.Tests.{ltb-true, ltb-false, eqb-true, eqb-false, lt-ltb, le-ltb, eq-eqb}
 use Rattle.site.specs.Stores.{Stores}
 use Rattle.site.specs.WellFormed.{isAmong}
-use Rattle.tracer.proofs.Paths.{by-cases, path-same, distance-zero}
-use Rattle.tracer.proofs.ReachingLaws.{and-false, lasts-none, count-most}
+use Rattle.tracer.proofs.CountLaws.{lasts-none}
+use Rattle.tracer.proofs.Forwardings.{forwardings-listed}
+use Rattle.tracer.proofs.Paths.{by-cases, path-same, distance-same, distance-zero}
+use Rattle.tracer.proofs.ReachingLaws.{and-false, count-most}
 use Rattle.tracer.specs.Lines.{Crossing, path, distance}
-use Rattle.tracer.specs.Listing.{Query, crossingPasses, isListed, onArrival, entry, eachBelow, countBelow, listed, linesListed, isForwardedTo, forwardings}
+use Rattle.tracer.specs.Reaching.{isForwardedTo}
+use Rattle.tracer.specs.Listing.{Query, crossingPasses, isListed, onArrival, entry, eachBelow, countBelow, listed, linesListed, forwardingsBy, forwardings}
 
 -- the lines of a list, three octets for each
 abbrev pub linesOf : List ℕ → List ℕ
@@ -66,14 +69,10 @@ and-yes true = refl
 and-yes false = refl
 
 module _ (f : Crossing → Bool) (s c : ℕ) where
-  distance-same : distance s s ≡ 0
-  unfolding distance
-  distance-same = rw path-same refl
-
   -- the starting line is always listed
   pub start-listed : isListed f s c s ≡ true
   unfolding isListed
-  start-listed = rw (path-same, distance-same, lasts-none) refl
+  start-listed = rw (path-same, distance-same s, lasts-none) refl
 
   -- "line, count on arrival (7, or c minus d), couplers crossed": those of the path
   pub entry-listed : (t : ℕ) → isListed f s c t ≡ true → entry f s c t ≡ t ∷ onArrival c (length (path s t)) ∷ length (path s t) ∷ []
@@ -98,7 +97,7 @@ module _ (f : Crossing → Bool) (s c : ℕ) where
   unfolding isForwardedTo
   forwarded-one n =
       by-cases (eqb n s)
-      (λ e. rw (eqb-true n s e, start-listed, distance-same, le-ltb s s (omega arith), lt-ltb s (suc s) (omega arith)) refl)
+      (λ e. rw (eqb-true n s e, start-listed, distance-same s, le-ltb s s (omega arith), lt-ltb s (suc s) (omega arith)) refl)
       (λ e.
       let q = eqb-false n s e in
       let d : 0 < distance s n = by-cases (eqb (distance s n) 0) (λ z. absurd (q (sym (distance-zero s n (eqb-true (distance s n) 0 z))))) (λ z. omega (arith, eqb-false (distance s n) 0 z)) in
@@ -114,8 +113,12 @@ module _ (f : Crossing → Bool) (s c : ℕ) where
   less-one : (n : ℕ) → s < n → countBelow (isForwardedTo f s c) n ≡ countBelow (isListed f s c) n - 1
   less-one n h = rw (forwarded-each n, lt-ltb s n h) (omega arith)
 
-  pub forwardings-less-one : s < 256 → countBelow (isForwardedTo f s c) 256 ≡ countBelow (isListed f s c) 256 - 1
-  forwardings-less-one h = less-one 256 h
+  -- so those lines are as many as the forwardings
+  pub forwarded-lines : s < 256 → countBelow (isForwardedTo f s c) 256 ≡ forwardingsBy f s c
+  forwarded-lines h = same (less-one 256 h) (ap (λ (b : Bool). cond b 1 0) start-listed) (forwardings-listed f s c h)
+    where
+      same : {a b k l : ℕ} → a ≡ l - 1 → k ≡ 1 → l ≡ k + b → a ≡ b
+      same d e g = omega arith
 
   -- the listed lines below a number
   abbrev pub linesBelow : ℕ → List ℕ
@@ -175,6 +178,7 @@ module _ (st : Stores) (site : List ℕ) (q : Query) where
   unfolding listed
   trace-has = list-has (crossingPasses st site q) (q .start) (q .count)
 
+  -- "which is the number of listed lines less one"
   pub trace-less-one : q .start < 256 → forwardings st site q ≡ linesListed st site q - 1
   unfolding forwardings linesListed
-  trace-less-one = forwardings-less-one (crossingPasses st site q) (q .start) (q .count)
+  trace-less-one h = sym (forwarded-lines (crossingPasses st site q) (q .start) (q .count) h) ∙ less-one (crossingPasses st site q) (q .start) (q .count) 256 h

@@ -20,11 +20,13 @@ use Rattle.site.specs.Letting.{lineLetsPass, Marks}
 use Rattle.site.specs.Records.{recordsOf}
 use Rattle.site.specs.Stores.{Stores}
 use Rattle.site.specs.WellFormed.{isAmong}
+use Rattle.tracer.proofs.Forwardings.{count-same}
+use Rattle.tracer.proofs.ListLaws.{forwarded-lines}
 use Rattle.tracer.proofs.Paths.{by-cases, main-below, by-mains, on-zero, before-on, before-off}
 use Rattle.tracer.proofs.ReachingLaws.{reach-listed, reach-reached}
 use Rattle.tracer.specs.Lines.{mainSides, beforeCommon, Crossing, up, down, upOver, downOver, path, distance}
-use Rattle.tracer.specs.Listing.{Query, queryOf, crossingPasses, allPass, isListed, entry, eachBelow, countBelow, listed, linesListed, isForwardedTo, forwardings}
-use Rattle.tracer.specs.Reaching.{reach, marked, Spread, isReached, entryBy}
+use Rattle.tracer.specs.Listing.{Query, queryOf, crossingPasses, allPass, isListed, entry, eachBelow, countBelow, listed, linesListed, forwardings}
+use Rattle.tracer.specs.Reaching.{reach, marked, isForwardedTo, Spread, isReached, entryBy}
 use Rattle.tracer.specs.Tracing.{traceTests, DidTrace}
 use Rattle.tracer.specs.Reaching.{DidList}
 use Rattle.tracer.specs.declared.Traced.{Traced}
@@ -33,10 +35,6 @@ use Rattle.coupler.specs.declared.Judged.the-variants.{Fine, Refused as NotFine
 each-same : (f g : ℕ → List ℕ) (n : ℕ) → ((i : ℕ) → i < n → f i ≡ g i) → eachBelow f n ≡ eachBelow g n
 each-same f g zero h = refl
 each-same f g (suc n) h = rw (each-same f g n (λ i l. h i (omega arith)), h n (omega arith)) refl
-
-count-same : (f g : ℕ → Bool) (n : ℕ) → ((i : ℕ) → i < n → f i ≡ g i) → countBelow f n ≡ countBelow g n
-count-same f g zero h = refl
-count-same f g (suc n) h = rw (count-same f g n (λ i l. h i (omega arith)), h n (omega arith)) refl
 
 -- a line whose number is known
 module _ (f : Crossing → Bool) (s c t : ℕ) (lines : List ℕ) (e : getD lines t 0 ≡ reach f s c t) where
@@ -124,6 +122,7 @@ module _ (st : Stores) (site : List ℕ) (q : Query) {downward upward : List Boo
     handed-on =
         w .forwarded
         ∙ count-same (isForwardedTo (marked downward upward) (q .start) (q .count)) (isForwardedTo asked (q .start) (q .count)) 256 (forwarded-same (marked downward upward) asked downs ups (q .start) (q .count) small)
+        ∙ forwarded-lines asked (q .start) (q .count) small
 
     pub listed-by : {lines : ℕ} {room room′ : List ℕ} → (lines ≡ countBelow (isReached reached) 256) × (room′ ≡ over (eachBelow (entryBy (q .count) reached) 256) room)
         → DidList st site q room (record { number = 0; lines = lines; forwardings = made }) room′

@@ -286,6 +286,10 @@ pub distance-four : (s t : ℕ) → distance s t ≤ 4
 distance-four s t =
     omega (arith, distance-halves s t, before-depth (mainSides t) (on-zero t) s, before-depth (mainSides s) (on-zero s) t, depth-two s, depth-two t)
 
+pub distance-same : (s : ℕ) → distance s s ≡ 0
+unfolding distance
+distance-same s = ap length (path-same s)
+
 none-before : (n : ℕ) (others : List ℕ) → isAmong 0 others ≡ true → length (beforeCommon (mainSides n) others) ≡ 0 → isAmong n others ≡ true
 none-before n others z e =
     by-cases (isAmong n others) (λ q. q)

@@ -10,12 +10,13 @@ use native.Mathlib.Omega.{arith}
 use lib.Dec.{ltb, eqb, leb·suc-suc}
 use lib.ListN.{length, getD, set, length-set, replicate}
 use lib.Seq.{getD-set-same, getD-set-other}
-use borrow.Author.Tests.{leb-false, eqb-true, eqb-false, lt-ltb, le-leb, lt-leb, eq-eqb, ne-eqb}
+use borrow.Author.Tests.{eqb-true, eqb-false, lt-ltb, eq-eqb, ne-eqb}
 use Rattle.site.specs.WellFormed.{isAmong}
+use Rattle.tracer.proofs.CountLaws.{lasts-none, lasts-less}
 use Rattle.tracer.proofs.Paths.{by-cases, never, main-below, depth-main, mains-zero, mains-cons, on-self, on-zero, on-next, before-on, before-off, path-climb, path-down, distance-four}
 use Rattle.tracer.specs.Lines.{mainSide, depth, mainSides, beforeCommon, Crossing, upOver, path, distance}
-use Rattle.tracer.specs.Listing.{allPass, lasts, isListed, countBelow, isForwardedTo}
-use Rattle.tracer.specs.Reaching.{handed, along, reach, marked, climbing, reachBy, Spread}
+use Rattle.tracer.specs.Listing.{allPass, lasts, isListed, countBelow}
+use Rattle.tracer.specs.Reaching.{handed, along, reach, marked, climbing, reachBy, isForwardedTo, Spread}
 
 -- one path after another
 along-append : (f : Crossing → Bool) (c l : ℕ) (p q : List Crossing) → along f c l (p ++ q) ≡ along f c (along f c l p) q
@@ -33,11 +34,6 @@ handed-zero c b = refl
 pub along-zero : (f : Crossing → Bool) (c : ℕ) (p : List Crossing) → along f c 0 p ≡ 0
 along-zero f c [] = refl
 along-zero f c (x ∷ p) = rw (handed-zero c (f x)) (along-zero f c p)
-
--- a count that lasts for so many couplers lasts for fewer
-pub lasts-less : (c d k : ℕ) → lasts c d ≡ false → lasts c (d + k) ≡ false
-unfolding lasts
-lasts-less c d k = by-cases (eqb c 7) (λ e. rw e (λ h. h)) (λ e. rw e (λ h. lt-leb (d + k) c (omega (arith, leb-false d c h))))
 
 handed-on : (c d : ℕ) (b : Bool) → handed c (suc d) b ≡ cond (b && lasts c (suc d)) (suc (suc d)) 0
 unfolding handed
@@ -59,10 +55,6 @@ along-from f c d (x ∷ p) h =
     (λ k. rw (e, k) (along-from f c (suc d) p k))
     (λ k. rw (e, k, lasts-less c (suc d) (length p) k, and-false (allPass f p)) (along-zero f c p)))
     (λ e. rw e (along-zero f c p)))
-
-pub lasts-none : (c : ℕ) → lasts c 0 ≡ true
-unfolding lasts
-lasts-none c = rw (le-leb 0 c (omega arith)) (by-cases (eqb c 7) (λ e. rw e refl) (λ e. rw e refl))
 
 module _ (f : Crossing → Bool) (s c : ℕ) where
   -- so many lines a telegram has been put on when it comes to a listed line, and to no other it comes

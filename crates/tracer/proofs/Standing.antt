@@ -15,7 +15,7 @@ use Rattle.octets.specs.Room.{over}
 use Rattle.site.specs.Stores.{Stores}
 use Rattle.tracer.proofs.ListLaws.{three-each}
 use Rattle.tracer.proofs.Paths.{by-cases}
-use Rattle.tracer.specs.Lines.{Crossing, distance}
+use Rattle.tracer.specs.Lines.{distance}
 use Rattle.tracer.specs.Listing.{Query, crossingPasses, isListed, onArrival, entry, StandsIn, eachBelow, countBelow, listed, linesListed}
 
 -- a line is listed with this count on arrival and so many couplers crossed
@@ -40,14 +40,16 @@ module _ (st : Stores) (site : List ℕ) (q : Query) where
       rw (← three-each (crossingPasses st site q) (q .start) (q .count) n, append-assoc (eachBelow entryOf n) (entryOf n) rest) (drop-append-seam (eachBelow entryOf n) (entryOf n ++ rest)) in
       ap (take 3) e ∙ rw l refl
 
-  stands-listed : (n : ℕ) (rest : List ℕ) (t k d : ℕ) → StandsIn (eachBelow entryOf n ++ rest) (countBelow lists n) t k d → (t < n) × ListedWith st site q t k d
+  -- so many listed lines come before it
+  stands-listed : (n : ℕ) (rest : List ℕ) (t k d : ℕ) (x : StandsIn (eachBelow entryOf n ++ rest) (countBelow lists n) t k d)
+      → (x .place ≡ countBelow lists t) × ((t < n) × ListedWith st site q t k d)
   stands-listed zero rest t k d x = absurd (omega (arith, x .among))
   stands-listed (suc n) rest t k d x =
       by-cases (ltb (x .place) (countBelow lists n))
       (λ e.
       let a : List ℕ → List ℕ = λ l. take 3 (drop (x .place * 3) l) in
       let y = stands-listed n (entryOf n ++ rest) t k d (record { place = x .place; among = ltb-true (x .place) (countBelow lists n) e; three = ap a (sym (append-assoc (eachBelow entryOf n) (entryOf n) rest)) ∙ x .three }) in
-      (omega (arith, y .0), y .1))
+      (y .0, (omega (arith, y .1 .0), y .1 .1)))
       (λ e.
       let h = ltb-false (x .place) (countBelow lists n) e in
       by-cases (lists n)
@@ -56,7 +58,7 @@ module _ (st : Stores) (site : List ℕ) (q : Query) where
       let f : t ∷ k ∷ d ∷ [] ≡ n ∷ onArrival (q .count) (distance (q .start) n) ∷ distance (q .start) n ∷ [] =
       sym (x .three) ∙ ap (λ (i : ℕ). take 3 (drop (i * 3) ((eachBelow entryOf n ++ entryOf n) ++ rest))) g ∙ entry-stands n rest l in
       let same : t ≡ n = ap (λ (o : List ℕ). octetAt o 0) f in
-      (omega (arith, same), rw same (record { lists = l; counts = sym (ap (λ (o : List ℕ). octetAt o 1) f); crosses = sym (ap (λ (o : List ℕ). octetAt o 2) f) })))
+      (g ∙ ap (countBelow lists) (sym same), (omega (arith, same), rw same (record { lists = l; counts = sym (ap (λ (o : List ℕ). octetAt o 1) f); crosses = sym (ap (λ (o : List ℕ). octetAt o 2) f) }))))
       (λ l. absurd (omega (arith, h, rw l at (x .among)))))
 
   listed-stands : (n : ℕ) (rest : List ℕ) (t k d : ℕ) → t < n → ListedWith st site q t k d → StandsIn (eachBelow entryOf n ++ rest) (countBelow lists n) t k d
@@ -72,9 +74,18 @@ module _ (st : Stores) (site : List ℕ) (q : Query) where
       record { place = y .place; among = omega (arith, y .among); three = ap (λ (l : List ℕ). take 3 (drop (y .place * 3) l)) (append-assoc (eachBelow entryOf n) (entryOf n) rest) ∙ y .three })
 
   -- in a room that begins with the list
-  pub stands-iff : (room : List ℕ) (t k d : ℕ) → StandsIn (over (listed st site q) room) (linesListed st site q) t k d ↔ ((t < 256) × ListedWith st site q t k d)
-  unfolding listed linesListed
-  stands-iff room t k d = (
-    stands-listed 256 (drop (length (eachBelow entryOf 256)) room) t k d,
-    (λ x. listed-stands 256 (drop (length (eachBelow entryOf 256)) room) t k d (x .0) (x .1)),
-  )
+  module _ (room : List ℕ) where
+    pub stands-iff : (t k d : ℕ) → StandsIn (over (listed st site q) room) (linesListed st site q) t k d ↔ ((t < 256) × ListedWith st site q t k d)
+    unfolding listed linesListed
+    stands-iff t k d = (
+      (λ x. stands-listed 256 (drop (length (eachBelow entryOf 256)) room) t k d x .1),
+      (λ x. listed-stands 256 (drop (length (eachBelow entryOf 256)) room) t k d (x .0) (x .1)),
+    )
+
+    -- a line stands in one place
+    pub stands-once : (t : ℕ) {k₁ k₂ d₁ d₂ : ℕ} (a : StandsIn (over (listed st site q) room) (linesListed st site q) t k₁ d₁) (b : StandsIn (over (listed st site q) room) (linesListed st site q) t k₂ d₂)
+        → a .place ≡ b .place
+    unfolding listed linesListed
+    stands-once t {k₁} {k₂} {d₁} {d₂} a b =
+        let rest : List ℕ = drop (length (eachBelow entryOf 256)) room in
+        stands-listed 256 rest t k₁ d₁ a .0 ∙ sym (stands-listed 256 rest t k₂ d₂ b .0)

@@ -1,6 +1,6 @@
 -- What the couplers of a site do: a first sending put on the starting line is handed on from line to line by each coupler's step, whatever
 -- that coupler remembers, never back over the coupler by which it came. The backbone, line 00h, is TP1 or IP; every other line is TP1.
-use Prim.Native.Nat.{ℕ, _≤_}
+use Prim.Native.Nat.{ℕ, _≤_, _<_}
 use mathlib.Core.Bool.{Bool, true, false, cond, _&&_}
 use mathlib.Core.List.{List, [], _∷_, _++_}
 use mathlib.Core.Path.{_≡_}
@@ -56,6 +56,22 @@ pub data Arrives (w : AtWork) (start : ℕ) (first : List ℕ) : ℕ → List �
   put-there : Arrives w start first start first []
   handed-on : {octets onward : List ℕ} {way : List Crossing} (x : Crossing) → Arrives w start first (fromLine x) octets way → cameOver way (x .line) ≡ false → Hands w x octets onward
       → Arrives w start first (toLine x) onward (way ++ (x ∷ []))
+
+-- a coupler's sending: octets came to the line that the crossing leads from, not over this very coupler, which hands them on
+pub record Sends (w : AtWork) (start : ℕ) (first : List ℕ) (x : Crossing) : Type 0 where
+  pub octets : List ℕ
+  pub onward : List ℕ
+  pub way : List Crossing
+  pub arrives : Arrives w start first (fromLine x) octets way
+  pub ahead : cameOver way (x .line) ≡ false
+  pub hands : Hands w x octets onward
+
+-- of so many crossings this is true: they may be numbered from 0 on, each once and none left out
+pub record SoMany (P : Crossing → Type 0) (n : ℕ) : Type 0 where
+  pub each : ℕ → Crossing
+  pub such : (i : ℕ) → i < n → P (each i)
+  pub once : (i j : ℕ) → i < n → j < n → each i ≡ each j → i ≡ j
+  pub all : (x : Crossing) → P x → (i : ℕ) × ((i < n) × (each i ≡ x))
 
 -- the same telegram with another count
 abbrev pub withCount : ℕ → Meaning → Meaning

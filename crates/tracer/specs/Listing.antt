@@ -1,15 +1,15 @@
 -- Demand 3: a line is listed exactly if every coupler on the path from the starting line to it is fitted and lets the telegram pass in its
 -- direction of travel, and the count c is 7 or the distance d at most c; in rising order, each once.
 use Prim.Native.Nat.{ℕ, zero, suc, _+_, _-_, _*_, _<_}
-use mathlib.Core.Bool.{Bool, true, cond, _&&_, _||_}
+use mathlib.Core.Bool.{Bool, true, not, cond, _&&_, _||_}
 use mathlib.Core.List.{List, [], _∷_, _++_}
 use mathlib.Core.Path.{_≡_}
-use lib.Dec.{ltb, leb, eqb}
+use lib.Dec.{leb, eqb}
 use lib.ListN.{take, drop}
 use Rattle.site.specs.Letting.{lineLetsPass}
 use Rattle.site.specs.Records.{recordsOf}
 use Rattle.site.specs.Stores.{Stores}
-use Rattle.tracer.specs.Lines.{Crossing, path, distance}
+use Rattle.tracer.specs.Lines.{Crossing, up, down, fromLine, cameOver, path, distance}
 
 -- what a planner asks; "kind (0 individual, 1 group)"
 pub record Query : Type 0 where
@@ -67,9 +67,21 @@ listed st site q = eachBelow (entry (crossingPasses st site q) (q .start) (q .co
 unfoldable pub linesListed : Stores → List ℕ → Query → ℕ
 linesListed st site q = countBelow (isListed (crossingPasses st site q) (q .start) (q .count)) 256
 
--- "the number of forwardings made on the site": each puts the telegram on one line, over the last coupler of the path there
-unfoldable pub isForwardedTo : (Crossing → Bool) → ℕ → ℕ → ℕ → Bool
-isForwardedTo f start count line = isListed f start count line && ltb 0 (distance start line)
+-- "the number of forwardings made on the site": a coupler makes one in a direction of travel if the telegram comes to the line that the
+-- crossing leads from, and not over that very coupler, the coupler is fitted and lets it pass, and the count on arrival is not 0
+unfoldable pub isForwarding : (Crossing → Bool) → ℕ → ℕ → Crossing → Bool
+isForwarding f start count x =
+    isListed f start count (fromLine x)
+    && not (cameOver (path start (fromLine x)) (x .line))
+    && f x
+    && not (eqb (onArrival count (distance start (fromLine x))) 0)
+
+-- "Every line n from 01h to FFh may have a coupler"
+abbrev pub couplersWith : (ℕ → Bool) → ℕ
+couplersWith holds = countBelow (λ n. holds (suc n)) 255
+
+abbrev pub forwardingsBy : (Crossing → Bool) → ℕ → ℕ → ℕ
+forwardingsBy f start count = couplersWith (λ n. isForwarding f start count (down n)) + couplersWith (λ n. isForwarding f start count (up n))
 
 unfoldable pub forwardings : Stores → List ℕ → Query → ℕ
-forwardings st site q = countBelow (isForwardedTo (crossingPasses st site q) (q .start) (q .count)) 256
+forwardings st site q = forwardingsBy (crossingPasses st site q) (q .start) (q .count)

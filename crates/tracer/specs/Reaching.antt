@@ -10,10 +10,10 @@ use Rattle.frame.specs.Order.{pass}
 use Rattle.octets.specs.Room.{over}
 use Rattle.site.specs.Stores.{Stores}
 use Rattle.site.specs.WellFormed.{isAmong}
-use Rattle.tracer.specs.Lines.{mainSide, mainSides, beforeCommon, Crossing, upOver, path}
+use Rattle.tracer.specs.Lines.{mainSide, mainSides, beforeCommon, Crossing, upOver, path, distance}
 use Rattle.tracer.specs.declared.Traced.{Traced}
 use Rattle.tracer.specs.Tracing.{tracedBy, listBy}
-use Rattle.tracer.specs.Listing.{Query, lasts, onArrival, countBelow, isForwardedTo}
+use Rattle.tracer.specs.Listing.{Query, lasts, isListed, onArrival, countBelow}
 
 -- one coupler hands it on if it lets it pass and the count lasts
 unfoldable pub handed : ℕ → ℕ → Bool → ℕ
@@ -41,6 +41,10 @@ reachBy downward upward lines start count line =
     cond (isAmong line (mainSides start))
     (along (marked downward upward) count 1 (climbing start line))
     (handed count (getD lines (mainSide line) 0) (getD downward line false))
+
+-- each forwarding puts the telegram on one line, over the last coupler of the path there
+unfoldable pub isForwardedTo : (Crossing → Bool) → ℕ → ℕ → ℕ → Bool
+isForwardedTo f start count line = isListed f start count line && ltb 0 (distance start line)
 
 -- what is known of every line, and how many forwardings were made
 pub record Spread (f : Crossing → Bool) (start count : ℕ) (reached : List ℕ) (made : ℕ) : Type 0 where

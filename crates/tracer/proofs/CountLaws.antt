@@ -1,0 +1,55 @@
+-- The count on its way: how long it lasts, and what is left of it after some couplers.
+use Prim.Native.Nat.{ℕ, suc, _+_, _-_, _≤_, _<_}
+use mathlib.Core.Bool.{true, false, not, _&&_}
+use mathlib.Core.Path.{_≡_, refl, sym, ap, _∙_}
+use native.Mathlib.Numerals.{add-one}
+use native.Mathlib.Omega.{arith}
+use lib.Dec.{leb, eqb}
+use borrow.Author.Tests.{leb-true, leb-false, eqb-true, eqb-false, le-leb, lt-leb, eq-eqb, ne-eqb}
+use Rattle.coupler.specs.Passing.{hopped}
+use Rattle.tracer.proofs.Paths.{by-cases}
+use Rattle.tracer.specs.Listing.{lasts, onArrival}
+
+pub lasts-none : (c : ℕ) → lasts c 0 ≡ true
+unfolding lasts
+lasts-none c = rw (le-leb 0 c (omega arith)) (by-cases (eqb c 7) (λ e. rw e refl) (λ e. rw e refl))
+
+-- a count that lasts for so many couplers lasts for fewer
+pub lasts-less : (c d k : ℕ) → lasts c d ≡ false → lasts c (d + k) ≡ false
+unfolding lasts
+lasts-less c d k = by-cases (eqb c 7) (λ e. rw e (λ h. h)) (λ e. rw e (λ h. lt-leb (d + k) c (omega (arith, leb-false d c h))))
+
+-- "7, or c minus d": what is left is not used up exactly if the count lasts for one coupler more
+pub left-lasts : (c d : ℕ) → lasts c d ≡ true → not (eqb (onArrival c d) 0) ≡ lasts c (suc d)
+unfolding lasts onArrival
+left-lasts c d e =
+    by-cases (eqb c 7)
+    (λ s. rw s refl)
+    (λ s.
+    let h : d ≤ c = leb-true d c (rw s at e) in
+    by-cases (leb (suc d) c)
+    (λ l. rw (s, l, ne-eqb (c - d) 0 (λ z. omega (arith, leb-true (suc d) c l))) refl)
+    (λ l. rw (s, l, eq-eqb (c - d) 0 (omega (arith, leb-false (suc d) c l))) refl))
+
+pub lasts-more : (c d : ℕ) → lasts c (suc d) ≡ lasts c d && not (eqb (onArrival c d) 0)
+lasts-more c d =
+    by-cases (lasts c d)
+    (λ e. rw e (sym (left-lasts c d e)))
+    (λ e. rw e (ap (lasts c) (sym (add-one d)) ∙ lasts-less c d 1 e))
+
+-- nothing crossed, nothing taken away
+pub arrival-none : (c : ℕ) → onArrival c 0 ≡ c
+unfolding onArrival
+arrival-none c = by-cases (eqb c 7) (λ e. rw e (sym (eqb-true c 7 e))) (λ e. rw e (omega arith))
+
+pub arrival-below : (c d : ℕ) → c < 8 → onArrival c d < 8
+unfolding onArrival
+arrival-below c d h = by-cases (eqb c 7) (λ e. rw e (omega arith)) (λ e. rw e (omega arith))
+
+-- the hop rule takes away one
+pub hopped-more : (c d : ℕ) → c ≤ 7 → hopped (onArrival c d) ≡ onArrival c (suc d)
+unfolding onArrival
+hopped-more c d h =
+    by-cases (eqb c 7)
+    (λ e. rw e refl)
+    (λ e. rw (e, ne-eqb (c - d) 7 (λ z. eqb-false c 7 e (omega arith))) (omega arith))
