@@ -2,3 +2,4 @@ pub mod RecordLaws
 pub mod Judging
 pub mod LettingLaws
 pub mod Refusals
+pub mod RecordCount
