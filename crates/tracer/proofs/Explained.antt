@@ -1,13 +1,14 @@
 -- What the explanation says: a line is reached exactly if it is listed; otherwise every coupler before the one named is fitted and lets the
--- telegram pass, and that one does not hand it on, for the reason given. The walk carries the count, the list the couplers crossed.
-use Prim.Native.Nat.{ℕ, suc, _+_, _≤_}
+-- telegram pass, the count lasts for them, and that one does not hand it on, for the reason given. A path has one such coupler. The walk
+-- carries the count, the list the couplers crossed.
+use Prim.Native.Nat.{ℕ, suc, _+_, _≤_, _<_}
 use mathlib.Core.Bool.{Bool, true, false, not, _&&_}
 use mathlib.Core.List.{List, [], _∷_, _++_}
-use mathlib.Core.Logic.{_↔_}
+use mathlib.Core.Logic.{_↔_, inl, inr, ⊎-elim}
 use mathlib.Core.Path.{_≡_, refl, sym, ap, _∙_}
 use native.Mathlib.Omega.{arith}
 use lib.Dec.{ltb, eqb}
-use lib.ListN.{length}
+use lib.ListN.{length, getD, drop}
 use borrow.Author.Tests.{lt-ltb}
 use Rattle.coupler.specs.Passing.{doesPass}
 use Rattle.coupler.specs.declared.Passage.{Passage}
@@ -17,8 +18,9 @@ use Rattle.site.specs.Letting.{passageAt}
 use Rattle.site.specs.Records.{recordsOf}
 use Rattle.site.specs.Stores.{Stores}
 use Rattle.tracer.proofs.CountLaws.{lasts-none, left-lasts, arrival-none, hopped-more}
-use Rattle.tracer.proofs.Paths.{by-cases}
+use Rattle.tracer.proofs.Paths.{by-cases, never}
 use Rattle.tracer.proofs.ReachingLaws.{along-zero, reach-reached}
+use Rattle.tracer.proofs.RoomList.{lasts-iff}
 use Rattle.tracer.specs.Lines.{Crossing, path}
 use Rattle.tracer.specs.Listing.{Query, crossingPasses, allPass, lasts, isListed, onArrival}
 use Rattle.tracer.specs.Reaching.{handed, along, reach}
@@ -32,12 +34,21 @@ abbrev pub isGoing : Walk → Bool
 isGoing (Going count) = true
 isGoing (Stopped stop) = false
 
+lasts-fewer : (c d n : ℕ) → d ≤ n → lasts c n ≡ true → lasts c d ≡ true
+lasts-fewer c d n h e = lasts-iff c d .1 (⊎-elim (λ s. inl s) (λ l. inr (omega (arith, l))) (lasts-iff c n .0 e))
+
 stopped-stays : (st : Stores) (site : List ℕ) (group : Bool) (destination : ℕ) (stop : Stop) (xs : List Crossing)
     → walked st site group destination (Stopped stop) xs ≡ Stopped stop
 stopped-stays st site group destination stop [] = refl
 stopped-stays st site group destination stop (x ∷ xs) = stopped-stays st site group destination stop xs
 
-module _ (st : Stores) (site : List ℕ) (q : Query) (m : q .count ≤ 7) where
+first-same : {A : Type 0} {x y : A} {xs ys : List A} → x ∷ xs ≡ y ∷ ys → x ≡ y
+first-same {x = x} e = ap (λ l. getD l 0 x) e
+
+rest-same : {A : Type 0} {x y : A} {xs ys : List A} → x ∷ xs ≡ y ∷ ys → xs ≡ ys
+rest-same e = ap (λ l. drop 1 l) e
+
+module _ (st : Stores) (site : List ℕ) (q : Query) where
   abbrev walk : Walk → List Crossing → Walk
   walk w xs = walked st site (eqb (q .kind) 1) (q .destination) w xs
 
@@ -45,11 +56,11 @@ module _ (st : Stores) (site : List ℕ) (q : Query) (m : q .count ≤ 7) where
   passage x count = passageAt st (eqb (q .kind) 1) (q .destination) (recordsOf site) (x .direction) (x .line) count
 
   -- after d couplers, with the count that is left
-  going : (d : ℕ) (xs : List Crossing) → lasts (q .count) d ≡ true
+  going : (m : q .count ≤ 7) (d : ℕ) (xs : List Crossing) → lasts (q .count) d ≡ true
       → isGoing (walk (Going (onArrival (q .count) d)) xs) ≡ ltb 0 (along (crossingPasses st site q) (q .count) (suc d) xs)
   unfolding handed
-  going d [] e = sym (lt-ltb 0 (suc d) (omega arith))
-  going d (x ∷ xs) e =
+  going m d [] e = sym (lt-ltb 0 (suc d) (omega arith))
+  going m d (x ∷ xs) e =
       let p = passage x (onArrival (q .count) d) in
       let f = crossingPasses st site q x in
       let k : doesPass p ≡ f && lasts (q .count) (suc d) =
@@ -58,17 +69,17 @@ module _ (st : Stores) (site : List ℕ) (q : Query) (m : q .count ≤ 7) where
       by-cases (f && lasts (q .count) (suc d))
       (λ t.
       let l : lasts (q .count) (suc d) ≡ true = and-true f (lasts (q .count) (suc d)) t .1 in
-      rw (k, lt-ltb 0 (suc d) (omega arith), t, hopped-more (q .count) d m) (going (suc d) xs l))
+      rw (k, lt-ltb 0 (suc d) (omega arith), t, hopped-more (q .count) d m) (going m (suc d) xs l))
       (λ n.
       rw (k, lt-ltb 0 (suc d) (omega arith), n)
       (ap isGoing (stopped-stays st site (eqb (q .kind) 1) (q .destination) (record { coupler = x .line; direction = x .direction; reason = p }) xs)
       ∙ sym (ap (λ (l : ℕ). ltb 0 l) (along-zero (crossingPasses st site q) (q .count) xs))))
 
-  going-listed : (line : ℕ) → isGoing (walk (Going (q .count)) (path (q .start) line)) ≡ isListed (crossingPasses st site q) (q .start) (q .count) line
+  going-listed : (m : q .count ≤ 7) (line : ℕ) → isGoing (walk (Going (q .count)) (path (q .start) line)) ≡ isListed (crossingPasses st site q) (q .start) (q .count) line
   unfolding reach
-  going-listed line =
+  going-listed m line =
       ap (λ (c : ℕ). isGoing (walk (Going c) (path (q .start) line))) (sym (arrival-none (q .count)))
-      ∙ going 0 (path (q .start) line) (lasts-none (q .count))
+      ∙ going m 0 (path (q .start) line) (lasts-none (q .count))
       ∙ reach-reached (crossingPasses st site q) (q .start) (q .count) line
 
   reached-going : (w : Walk) → whyBy w ≡ Reached → isGoing w ≡ true
@@ -80,67 +91,94 @@ module _ (st : Stores) (site : List ℕ) (q : Query) (m : q .count ≤ 7) where
   going-reached (Stopped stop) e = let z : _≡_ {A = ℕ} 0 1 = cc in absurd (omega arith)
 
   -- "'reached' exactly for the listed lines"
-  pub reached-iff : (line : ℕ) → whyOf st site q line ≡ Reached ↔ (isListed (crossingPasses st site q) (q .start) (q .count) line ≡ true)
+  pub reached-iff : q .count ≤ 7 → (line : ℕ) → whyOf st site q line ≡ Reached ↔ (isListed (crossingPasses st site q) (q .start) (q .count) line ≡ true)
   unfolding whyOf
-  reached-iff line =
+  reached-iff m line =
       let w = walk (Going (q .count)) (path (q .start) line) in
-      ((λ e. sym (going-listed line) ∙ reached-going w e), (λ e. going-reached w (going-listed line ∙ e)))
+      ((λ e. sym (going-listed m line) ∙ reached-going w e), (λ e. going-reached w (going-listed m line ∙ e)))
 
-  -- where and why a walk stopped that had crossed so many couplers before: those ahead let the telegram pass, and this one does not hand it
-  -- on, for the reason that it has with the count on arrival there
+  -- the telegram comes to this coupler, d having been crossed before those ahead: they let it pass, and the count lasts for them; this one does
+  -- not hand it on
+  abbrev pub StopsBehind : ℕ → List Crossing → Crossing → Type 0
+  StopsBehind d ahead here =
+      (allPass (crossingPasses st site q) ahead ≡ true)
+      × ((lasts (q .count) (d + length ahead) ≡ true) × (doesPass (passage here (onArrival (q .count) (d + length ahead))) ≡ false))
+
+  -- what is told of it: the reason that it has with the count on arrival there
+  abbrev pub stopOf : Crossing → ℕ → Stop
+  stopOf x d = record { coupler = x .line; direction = x .direction; reason = passage x (onArrival (q .count) d) }
+
   pub record StoppedAt (crossed : ℕ) (xs : List Crossing) (stop : Stop) : Type 0 where
     pub ahead : List Crossing
     pub here : Crossing
     pub behind : List Crossing
     pub place : xs ≡ ahead ++ (here ∷ behind)
-    pub pass : allPass (crossingPasses st site q) ahead ≡ true
-    pub named : (stop .coupler ≡ here .line) × (stop .direction ≡ here .direction)
-    pub reason : stop .reason ≡ passage here (onArrival (q .count) (crossed + length ahead))
-    pub stops : doesPass (passage here (onArrival (q .count) (crossed + length ahead))) ≡ false
+    pub stops : StopsBehind crossed ahead here
+    pub told : stop ≡ stopOf here (crossed + length ahead)
 
-  -- "all couplers before the one it names are fitted and pass, and that one does not, for the reason given"
-  pub stopped-at : (d : ℕ) (xs : List Crossing) (stop : Stop) → lasts (q .count) d ≡ true → walk (Going (onArrival (q .count) d)) xs ≡ Stopped stop → StoppedAt d xs stop
-  stopped-at d [] stop h e = let z : _≡_ {A = ℕ} 0 1 = cc in absurd (omega arith)
-  stopped-at d (x ∷ xs) stop h e =
+  stopped-at : (m : q .count ≤ 7) (d : ℕ) (xs : List Crossing) (stop : Stop) → lasts (q .count) d ≡ true → walk (Going (onArrival (q .count) d)) xs ≡ Stopped stop → StoppedAt d xs stop
+  stopped-at m d [] stop h e = let z : _≡_ {A = ℕ} 0 1 = cc in absurd (omega arith)
+  stopped-at m d (x ∷ xs) stop h e =
       let k = onArrival (q .count) d in
       by-cases (doesPass (passage x k))
       (λ t.
       let a = and-true (crossingPasses st site q x) (not (eqb k 0)) (sym (passage-lets st (eqb (q .kind) 1) (q .destination) (recordsOf site) (x .direction) (x .line) k) ∙ t) in
       let l : lasts (q .count) (suc d) ≡ true = sym (left-lasts (q .count) d h) ∙ a .1 in
-      let s = stopped-at (suc d) xs stop l (ap (λ (c : ℕ). walk (Going c) xs) (sym (hopped-more (q .count) d m)) ∙ (rw t at e)) in
+      let s = stopped-at m (suc d) xs stop l (ap (λ (c : ℕ). walk (Going c) xs) (sym (hopped-more (q .count) d m)) ∙ (rw t at e)) in
       let j : suc d + length (s .ahead) ≡ d + suc (length (s .ahead)) = omega arith in
       record {
         ahead = x ∷ s .ahead;
         here = s .here;
         behind = s .behind;
         place = ap (λ (l : List Crossing). x ∷ l) (s .place);
-        pass = ap (λ (b : Bool). b && allPass (crossingPasses st site q) (s .ahead)) (a .0) ∙ s .pass;
-        named = s .named;
-        reason = s .reason ∙ ap (λ (n : ℕ). passage (s .here) (onArrival (q .count) n)) j;
-        stops = ap (λ (n : ℕ). doesPass (passage (s .here) (onArrival (q .count) n))) (sym j) ∙ s .stops;
+        stops = (ap (λ (b : Bool). b && allPass (crossingPasses st site q) (s .ahead)) (a .0) ∙ s .stops .0, (rw (← j) (s .stops .1 .0), rw (← j) (s .stops .1 .1)));
+        told = s .told ∙ ap (stopOf (s .here)) j;
       })
       (λ n.
-      let f : Stopped (record { coupler = x .line; direction = x .direction; reason = passage x k }) ≡ Stopped stop =
-      sym (stopped-stays st site (eqb (q .kind) 1) (q .destination) (record { coupler = x .line; direction = x .direction; reason = passage x k }) xs) ∙ (rw n at e) in
-      let g : stop ≡ record { coupler = x .line; direction = x .direction; reason = passage x k } = cc in
+      let f : Stopped (stopOf x d) ≡ Stopped stop = sym (stopped-stays st site (eqb (q .kind) 1) (q .destination) (stopOf x d) xs) ∙ (rw n at e) in
+      let g : stop ≡ stopOf x d = cc in
       let j : d ≡ d + 0 = omega arith in
       record {
         ahead = [];
         here = x;
         behind = xs;
         place = refl;
-        pass = refl;
-        named = (ap (λ (s : Stop). s .coupler) g, ap (λ (s : Stop). s .direction) g);
-        reason = ap (λ (s : Stop). s .reason) g ∙ ap (λ (c : ℕ). passage x (onArrival (q .count) c)) j;
-        stops = ap (λ (c : ℕ). doesPass (passage x (onArrival (q .count) c))) (sym j) ∙ n;
+        stops = (refl, (rw (← j) h, rw (← j) n));
+        told = g ∙ ap (stopOf x) j;
       })
 
-  stop-of : (w : Walk) (stop : Stop) → whyBy w ≡ NotReached stop → w ≡ Stopped stop
-  stop-of (Going count) stop e = let z : _≡_ {A = ℕ} 0 1 = cc in absurd (omega arith)
-  stop-of (Stopped s) stop e = let h : s ≡ stop = cc in ap Stopped h
+  stop-of : (w : Walk) → isGoing w ≡ false → (stop : Stop) × (w ≡ Stopped stop)
+  stop-of (Going count) e = never e
+  stop-of (Stopped stop) e = (stop, refl)
 
-  pub not-reached : (line : ℕ) (stop : Stop) → whyOf st site q line ≡ NotReached stop → StoppedAt 0 (path (q .start) line) stop
+  -- "all couplers before the one it names are fitted and pass, and that one does not, for the reason given"
+  pub not-reached : q .count ≤ 7 → (line : ℕ) → isListed (crossingPasses st site q) (q .start) (q .count) line ≡ false → (stop : Stop) × ((whyOf st site q line ≡ NotReached stop) × StoppedAt 0 (path (q .start) line) stop)
   unfolding whyOf
-  not-reached line stop e =
-      stopped-at 0 (path (q .start) line) stop (lasts-none (q .count))
-      (ap (λ (c : ℕ). walk (Going c) (path (q .start) line)) (arrival-none (q .count)) ∙ stop-of (walk (Going (q .count)) (path (q .start) line)) stop e)
+  not-reached m line e =
+      let w = stop-of (walk (Going (q .count)) (path (q .start) line)) (going-listed m line ∙ e) in
+      (w .0, (ap whyBy (w .1), stopped-at m 0 (path (q .start) line) (w .0) (lasts-none (q .count)) (ap (λ (c : ℕ). walk (Going c) (path (q .start) line)) (arrival-none (q .count)) ∙ w .1)))
+
+  -- a coupler that lets the telegram pass hands it on if the count lasts for one more
+  hands-on : (x : Crossing) (d n : ℕ) → crossingPasses st site q x ≡ true → d < n → lasts (q .count) n ≡ true → doesPass (passage x (onArrival (q .count) d)) ≡ true
+  hands-on x d n f h e =
+      let more : lasts (q .count) (suc d) ≡ true = lasts-fewer (q .count) (suc d) n h e in
+      passage-lets st (eqb (q .kind) 1) (q .destination) (recordsOf site) (x .direction) (x .line) (onArrival (q .count) d)
+      ∙ rw (f, left-lasts (q .count) d (lasts-fewer (q .count) d n (omega (arith, h)) e)) more
+
+  stops-behind : (d : ℕ) (x y : Crossing) (xs : List Crossing) → StopsBehind d (x ∷ xs) y → (crossingPasses st site q x ≡ true) × StopsBehind (suc d) xs y
+  stops-behind d x y xs s =
+      let p = and-true (crossingPasses st site q x) (allPass (crossingPasses st site q) xs) (s .0) in
+      let j : d + suc (length xs) ≡ suc d + length xs = omega arith in
+      (p .0, (p .1, (rw j at (s .1 .0), rw j at (s .1 .1))))
+
+  none-behind : (d : ℕ) (x y : Crossing) (xs : List Crossing) → StopsBehind d [] x → StopsBehind d (x ∷ xs) y → ⊥
+  none-behind d x y xs s s′ = never (sym (hands-on x (d + 0) (d + suc (length xs)) (stops-behind d x y xs s′ .0) (omega arith) (s′ .1 .0)) ∙ s .1 .1)
+
+  -- such a coupler is one on a path
+  pub stops-once : (d : ℕ) (xs us ys vs : List Crossing) (x y : Crossing) → xs ++ (x ∷ us) ≡ ys ++ (y ∷ vs) → StopsBehind d xs x → StopsBehind d ys y → (x ≡ y) × (length xs ≡ length ys)
+  stops-once d [] us [] vs x y e s s′ = (first-same e, refl)
+  stops-once d [] us (z ∷ ys) vs x y e s s′ = absurd (none-behind d x y ys s (rw (← first-same e) at s′))
+  stops-once d (z ∷ xs) us [] vs x y e s s′ = absurd (none-behind d y x xs s′ (rw (first-same e) at s))
+  stops-once d (w ∷ xs) us (z ∷ ys) vs x y e s s′ =
+      let r = stops-once (suc d) xs us ys vs x y (rest-same e) (stops-behind d w x xs s .1) (stops-behind d z y ys s′ .1) in
+      (r .0, ap suc (r .1))

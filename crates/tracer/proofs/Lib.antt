@@ -3,6 +3,7 @@ pub mod CountLaws
 pub mod ReachingLaws
 pub mod RoomLaws
 pub mod WalkingLaws
+pub mod RoomList
 pub mod Explained
 pub mod Crossings
 pub mod Forwardings
