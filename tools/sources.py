@@ -116,14 +116,18 @@ def pairs(text):
             yield file, old, rest
 
 
-def edited(edit):
-    """The functions of the crate as the edit makes them."""
+def edited_sources(edit):
     files = sources(edit.crate)
     for file, old, new in edit.pairs:
         if file.startswith("src/"):
             name = pathlib.Path(file).stem
             files[name] = files[name].replace(old, new)
-    return list(functions_in(edit.crate, files))
+    return files
+
+
+def edited(edit):
+    """The functions of the crate as the edit makes them."""
+    return list(functions_in(edit.crate, edited_sources(edit)))
 
 
 def changed(edit):
