@@ -14,6 +14,8 @@ Edit = namedtuple("Edit", "crate name file text pairs")
 FN = re.compile(r'\b(pub(?:\([^)]*\))?\s+)?(?:extern\s+"C"\s+)?fn\s+(\w+)')
 IMPL = re.compile(r"^impl\s+(\w+)\s*\{", re.M)
 MOD = re.compile(r"^(pub\s+)?(?:pub\([^)]*\)\s+)?mod\s+(\w+)\s*(;|\{)", re.M)
+# The second part of a wrong program's head.
+SHOWN = re.compile(r"^# on (\S.*): (\S.*), not (\S.*)$", re.M)
 USE = re.compile(r"^ghost use ([^;{]+)\.\{([^}]*)\};", re.M)
 
 
