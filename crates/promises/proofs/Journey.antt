@@ -18,16 +18,21 @@ use Rattle.octets.proofs.Below.{and-true}
 use Rattle.octets.specs.Octets.{Octets}
 use Rattle.octets.specs.Room.{over}
 use Rattle.site.specs.WellFormed.{siteTests}
-use Rattle.tracer.proofs.Journey.{list-is-journey, arrives-listed, arrives-below, sends-so-many, sends-once}
+use Rattle.tracer.proofs.Handing.{backbone-ip}
+use Rattle.tracer.proofs.Journey.{list-is-journey, arrives-listed, arrives-below, sends-so-many, sends-once as sends-alike}
 use Rattle.tracer.proofs.ListLaws.{trace-less-one}
 use Rattle.tracer.proofs.Paths.{by-cases}
 use Rattle.tracer.proofs.SoMany.{so-many-one}
 use Rattle.tracer.proofs.Standing.{ListedWith, stands-iff, stands-once}
-use Rattle.tracer.specs.Journey.{AtWork, formOn, Arrives, Sends, SoMany, ArrivesWith, withCount, askedOf}
+use Rattle.tracer.specs.Journey.{AtWork, isIp, formOn, Arrives, Sends, SoMany, ArrivesWith, withCount, askedOf}
 use Rattle.tracer.specs.Lines.{Crossing, path, distance}
 use Rattle.tracer.specs.Listing.{Query, onArrival, StandsIn, listed, linesListed, forwardings}
 use Rattle.tracer.specs.Tracing.{isQuery, traceTests, tracedBy, listBy, DidTrace}
 use Rattle.tracer.specs.declared.Traced.{Traced}
+
+-- the backbone may be either: it is IP exactly if it is meant to be
+pub backbone-on-ip : (w : AtWork) → NoneOf (siteTests (w .stores) (w .site)) → isIp w 0 ≡ w .meantIp 0
+backbone-on-ip w ok = backbone-ip w (passed-iff (siteTests (w .stores) (w .site)) .1 ok)
 
 module _ (w : AtWork) (o : Octets (w .site)) (ok : NoneOf (siteTests (w .stores) (w .site))) (start : ℕ) (small : start < 256) (m : Meaning) (p : List ℕ) (v : Valid m p) (new : m .first ≡ true)
     (room room′ : List ℕ) (answer : Traced) (large : 768 ≤ length room) (d : DidTrace (w .stores) (w .site) (askedOf start m) room answer room′) where
@@ -104,8 +109,8 @@ module _ (w : AtWork) (o : Octets (w .site)) (ok : NoneOf (siteTests (w .stores)
       ((λ x. so-many-one (Sends w start (formOn w start m p)) n (answer .forwardings) x s), λ e. subst (SoMany (Sends w start (formOn w start m p))) (sym e) s)
 
   -- .. each coupler sending once, if at all, in a direction ..
-  pub sends-but-once : (x : Crossing) (a b : Sends w start (formOn w start m p) x) → (a .octets ≡ b .octets) × ((a .way ≡ b .way) × (a .onward ≡ b .onward))
-  sends-but-once = sends-once w fine start m p v new
+  pub sends-once : (x : Crossing) (a b : Sends w start (formOn w start m p) x) → (a .octets ≡ b .octets) × ((a .way ≡ b .way) × (a .onward ≡ b .onward))
+  sends-once = sends-alike w fine start m p v new
 
   -- .. "which is the number of listed lines less one"
   pub forwardings-less-one : answer .forwardings ≡ answer .lines - 1

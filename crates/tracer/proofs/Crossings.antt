@@ -11,20 +11,18 @@ use borrow.Author.Tests.{not-false}
 use Rattle.site.specs.WellFormed.{isAmong}
 use Rattle.tracer.proofs.CountLaws.{lasts-more}
 use Rattle.tracer.proofs.Paths.{by-cases, never, on-zero, path-down, path-up, above-of, over-own, over-main}
-use Rattle.tracer.proofs.ReachingLaws.{and-false}
+use Rattle.tracer.proofs.ReachingLaws.{and-yes, and-false}
 use Rattle.tracer.specs.Lines.{mainSides, Crossing, up, down, crossing, fromLine, toLine, cameOver, path, distance}
 use Rattle.tracer.specs.Listing.{allPass, lasts, isListed, onArrival, isForwarding}
 
--- a crossing that leads away from s, the coupler being another than the last one of the path, makes the path longer by itself, and the other
--- way round
-
+-- a crossing over another coupler than the last of the path from s leads away from s
 pub goes-on : (s side n : ℕ) → side < 2 → (n ≡ 0 → ⊥) → cameOver (path s (fromLine (crossing side n))) n ≡ false
     → path s (toLine (crossing side n)) ≡ path s (fromLine (crossing side n)) ++ (crossing side n ∷ [])
 goes-on s zero n l h d = path-down s n (sym (over-main s n h) ∙ d)
 goes-on s (suc zero) n l h d = path-up s n (not-false (isAmong n (mainSides s)) (sym (over-own s n h) ∙ d)) h
 goes-on s (suc (suc side)) n l h d = absurd (omega arith)
 
--- the last crossing of the path to a line other than s
+-- the last crossing of the path to a line other than s, and that it is such
 pub record Last (s t : ℕ) : Type 0 where
   pub last : Crossing
   pub side : last .direction < 2
@@ -43,15 +41,11 @@ last-of s t d =
     let h : t ≡ 0 → ⊥ = λ z. never (sym (on-zero s) ∙ ap (λ (x : ℕ). isAmong x (mainSides s)) (sym z) ∙ q) in
     record { last = down t; side = omega arith; leads = refl; longer = path-down s t q; ahead = over-main s t h ∙ q })
 
--- the count, and what every coupler lets pass
+-- what it asks of the list
 
-pub all-more : (f : Crossing → Bool) (xs : List Crossing) (x : Crossing) → allPass f (xs ++ (x ∷ [])) ≡ allPass f xs && f x
-all-more f [] x = and-one (f x)
-  where
-    and-one : (a : Bool) → a && true ≡ a
-    and-one true = refl
-    and-one false = refl
-all-more f (y ∷ xs) x = by-cases (f y) (λ e. rw e (all-more f xs x)) (λ e. rw e refl)
+pub all-append : (f : Crossing → Bool) (p q : List Crossing) → allPass f (p ++ q) ≡ allPass f p && allPass f q
+all-append f [] q = refl
+all-append f (x ∷ p) q = by-cases (f x) (λ e. rw e (all-append f p q)) (λ e. rw e refl)
 
 pub distance-more : (s t u : ℕ) (x : Crossing) → path s t ≡ path s u ++ (x ∷ []) → distance s t ≡ suc (distance s u)
 unfolding distance
@@ -62,7 +56,7 @@ pub listed-more : (f : Crossing → Bool) (s c t u : ℕ) (x : Crossing) → pat
     → isListed f s c t ≡ isListed f s c u && f x && not (eqb (onArrival c (distance s u)) 0)
 unfolding isListed
 listed-more f s c t u x e =
-    rw (distance-more s t u x e, e, all-more f (path s u) x, lasts-more c (distance s u))
+    rw (distance-more s t u x e, e, all-append f (path s u) (x ∷ []), and-yes (f x), lasts-more c (distance s u))
     (sorted (allPass f (path s u)) (f x) (lasts c (distance s u)) (not (eqb (onArrival c (distance s u)) 0)))
   where
     sorted : (a b c d : Bool) → a && b && (c && d) ≡ a && c && b && d

@@ -8,7 +8,7 @@ use native.Mathlib.Omega.{arith}
 use lib.Dec.{ltb, eqb}
 use lib.ListN.{length, take, drop, replicate}
 use lib.Seq.{take-at}
-use borrow.Author.Tests.{ltb-true, not-false, ne-eqb}
+use borrow.Author.Tests.{ltb-true, not-false}
 use Rattle.cemi.specs.Writing.{messageInRange}
 use Rattle.cemi.specs.declared.CemiAnswer.{CemiAnswer}
 use Rattle.coupler.proofs.Promised.{Forwardable, Forwards, forwarded-iff, sent-is}
@@ -26,15 +26,16 @@ use Rattle.octets.specs.Room.{over}
 use Rattle.routing.proofs.RoundTrip.{routing-read, routing-payload}
 use Rattle.routing.specs.Layout.{routingOctets}
 use Rattle.site.specs.Letting.{recordPasses, lineLetsPass}
-use Rattle.site.specs.Records.{recordsOf, lineOf, codesOf, tableNumber, couplerOf, isFitted}
+use Rattle.site.specs.Records.{recordsOf, lineOf, codesOf, tableNumber, isFitted}
 use Rattle.site.specs.Stores.{tableOf}
 use Rattle.site.specs.WellFormed.{siteTests}
 use Rattle.tp1.proofs.RoundTrip.{laid-read, laid-payload}
 use Rattle.tp1.specs.Layout.{tp1Octets}
 use Rattle.tp1.specs.declared.Tp1Answer.{Tp1Answer}
 use Rattle.tracer.proofs.Fitted.{IsSet, fitted-set, fitted-line, set-passes}
-use Rattle.tracer.proofs.ReachingLaws.{and-false}
-use Rattle.tracer.specs.Journey.{AtWork, isIp, formOn, settingBy, Hands}
+use Rattle.tracer.proofs.Paths.{by-cases}
+use Rattle.tracer.proofs.ReachingLaws.{and-yes, and-false}
+use Rattle.tracer.specs.Journey.{AtWork, ownCoupler, isIp, formOn, settingBy, Hands}
 use Rattle.tracer.specs.Lines.{mainSide, Crossing, crossing, fromLine, toLine}
 
 -- a telegram in the form of a medium, read by that medium's reader
@@ -64,18 +65,18 @@ pub one-if : (b : Bool) → eqb (cond b 1 0) 1 ≡ b
 one-if true = refl
 one-if false = refl
 
-not-backbone : (w : AtWork) (n : ℕ) → (n ≡ 0 → ⊥) → isIp w n ≡ false
-not-backbone w n h = rw (ne-eqb n 0 h) (and-false (w .onIp))
+sub-tp1 : (w : AtWork) (n : ℕ) → isFitted (ownCoupler w n) ≡ true → isIp w n ≡ false
+sub-tp1 w n e = rw e (and-false (w .meantIp n))
 
-from-medium : (w : AtWork) (n side : ℕ) → (n ≡ 0 → ⊥) → side < 2 → eqb side 0 && eqb (cond (isIp w (mainSide n)) 1 0) 1 ≡ isIp w (fromLine (crossing side n))
-from-medium w n zero h l = one-if (isIp w (mainSide n))
-from-medium w n (suc zero) h l = sym (not-backbone w n h)
-from-medium w n (suc (suc side)) h l = absurd (omega arith)
+from-medium : (w : AtWork) (n side : ℕ) → isFitted (ownCoupler w n) ≡ true → side < 2 → eqb side 0 && eqb (cond (isIp w (mainSide n)) 1 0) 1 ≡ isIp w (fromLine (crossing side n))
+from-medium w n zero e l = one-if (isIp w (mainSide n))
+from-medium w n (suc zero) e l = sym (sub-tp1 w n e)
+from-medium w n (suc (suc side)) e l = absurd (omega arith)
 
-to-medium : (w : AtWork) (n side : ℕ) → (n ≡ 0 → ⊥) → side < 2 → eqb side 1 && eqb (cond (isIp w (mainSide n)) 1 0) 1 ≡ isIp w (toLine (crossing side n))
-to-medium w n zero h l = sym (not-backbone w n h)
-to-medium w n (suc zero) h l = one-if (isIp w (mainSide n))
-to-medium w n (suc (suc side)) h l = absurd (omega arith)
+to-medium : (w : AtWork) (n side : ℕ) → isFitted (ownCoupler w n) ≡ true → side < 2 → eqb side 1 && eqb (cond (isIp w (mainSide n)) 1 0) 1 ≡ isIp w (toLine (crossing side n))
+to-medium w n zero e l = sym (sub-tp1 w n e)
+to-medium w n (suc zero) e l = one-if (isIp w (mainSide n))
+to-medium w n (suc (suc side)) e l = absurd (omega arith)
 
 -- what a call of the step leaves at the front of its room is what it sends
 
@@ -116,7 +117,7 @@ forwards-set k remembered s room = go (firstOf (settingTests k room))
 
 module _ (w : AtWork) (ok : firstOf (siteTests (w .stores) (w .site)) ≡ pass) (x : Crossing) where
   abbrev fitting : List ℕ
-  fitting = couplerOf (x .line) (recordsOf (w .site))
+  fitting = ownCoupler w (x .line)
 
   abbrev setting : Setting
   setting = settingBy w fitting (x .direction)
@@ -149,14 +150,14 @@ module _ (w : AtWork) (ok : firstOf (siteTests (w .stores) (w .site)) ≡ pass) 
         let s : List ℕ = formOn w (fromLine x) m p in
         ap (λ (v : Verdict). after v (readBy (fromIp setting) s)) (set-passes w (x .line) fitting (set e) (x .direction) room l n)
         ∙ ap (λ (ip : Bool). readBy ip s)
-        (ap (λ (n : ℕ). eqb (x .direction) 0 && eqb (cond (isIp w (mainSide n)) 1 0) 1) (set e .place) ∙ from-medium w (x .line) (x .direction) (fitted-line (w .stores) (x .line) fitting (set e)) l)
+        (ap (λ (n : ℕ). eqb (x .direction) 0 && eqb (cond (isIp w (mainSide n)) 1 0) 1) (set e .place) ∙ from-medium w (x .line) (x .direction) e l)
         ∙ form-on-read w (fromLine x) m p v
 
     onward-form : isFitted fitting ≡ true → x .direction < 2 → forwardedOctets setting m p ≡ formOn w (toLine x) (forwardedMeaning m) p
     unfolding formOf formOn
     onward-form e l =
         ap (λ (ip : Bool). cond ip (routingOctets (indication (forwardedMeaning m)) p) (tp1Octets (forwardedMeaning m) p))
-        (ap (λ (n : ℕ). eqb (x .direction) 1 && eqb (cond (isIp w (mainSide n)) 1 0) 1) (set e .place) ∙ to-medium w (x .line) (x .direction) (fitted-line (w .stores) (x .line) fitting (set e)) l)
+        (ap (λ (n : ℕ). eqb (x .direction) 1 && eqb (cond (isIp w (mainSide n)) 1 0) 1) (set e .place) ∙ to-medium w (x .line) (x .direction) e l)
 
     pub hands-passes : (onward : List ℕ) → Hands w x (formOn w (fromLine x) m p) onward
         → (lineLetsPass (w .stores) (m .group) (m .destination) (recordsOf (w .site)) (x .direction) (x .line) ≡ true) × ((m .count ≡ 0 → ⊥) × (onward ≡ formOn w (toLine x) (forwardedMeaning m) p))
@@ -196,3 +197,10 @@ module _ (w : AtWork) (ok : firstOf (siteTests (w .stores) (w .site)) ≡ pass) 
           sends = step-sends setting (w .memories (x .line)) s aRoom did ∙ ap (sent setting recollected) e ∙ o;
           some = λ z. forwarded-iff setting recollected (frame m p) .1 l (ap length o ∙ z);
         }
+
+-- there is no coupler of 00h: the backbone is IP exactly if it is meant to be
+pub backbone-ip : (w : AtWork) → firstOf (siteTests (w .stores) (w .site)) ≡ pass → isIp w 0 ≡ w .meantIp 0
+backbone-ip w ok =
+    by-cases (isFitted (ownCoupler w 0))
+    (λ e. absurd (fitted-line (w .stores) 0 (ownCoupler w 0) (fitted-set (w .stores) (w .site) ok 0 e) refl))
+    (λ e. rw e (and-yes (w .meantIp 0)))

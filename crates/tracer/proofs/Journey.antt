@@ -19,7 +19,7 @@ use Rattle.frame.specs.declared.Meaning.{Meaning}
 use Rattle.octets.proofs.Below.{and-true}
 use Rattle.octets.specs.Octets.{Octets}
 use Rattle.site.specs.Letting.{recordPasses, lineLetsPass}
-use Rattle.site.specs.Records.{recordsOf, couplerOf, isFitted}
+use Rattle.site.specs.Records.{recordsOf, isFitted}
 use Rattle.site.specs.WellFormed.{siteTests}
 use Rattle.tracer.proofs.CountLaws.{arrival-none, arrival-below, hopped-more}
 use Rattle.tracer.proofs.Crossings.{goes-on, last-of, distance-more, listed-more, forwarding-is}
@@ -29,7 +29,7 @@ use Rattle.tracer.proofs.Handing.{one-if, form-on-read, hands-line, han
 use Rattle.tracer.proofs.ListLaws.{start-listed}
 use Rattle.tracer.proofs.Paths.{by-cases, main-below, path-same, distance-same, distance-zero}
 use Rattle.tracer.proofs.Standing.{ListedWith}
-use Rattle.tracer.specs.Journey.{AtWork, isIp, formOn, Hands, Arrives, Sends, SoMany, ArrivesWith, askedOf, withCount, put-there, handed-on}
+use Rattle.tracer.specs.Journey.{AtWork, ownCoupler, isIp, formOn, Hands, Arrives, Sends, SoMany, ArrivesWith, askedOf, withCount, put-there, handed-on}
 use Rattle.tracer.specs.Lines.{mainSide, Crossing, fromLine, toLine, cameOver, path, distance}
 use Rattle.tracer.specs.Listing.{crossingPasses, isListed, onArrival, isForwarding, forwardings}
 
@@ -76,9 +76,6 @@ module _ (w : AtWork) (ok : firstOf (siteTests (w .stores) (w .site)) ≡ pass) 
         forwarded-with m (onArrival (m .count) (distance start (fromLine x))) new
         ∙ ap (λ (k : ℕ). withCount k m) (hopped-more (m .count) (distance start (fromLine x)) (omega (arith, counted)) ∙ ap (onArrival (m .count)) (sym (distance-more start (toLine x) (fromLine x) x e)))
         )
-
-    left : Bool
-    left = not (eqb (onArrival (m .count) (distance start (fromLine x))) 0)
 
     step-lists : (onward : List ℕ) → Lists (fromLine x) → Hands w x (formThere (fromLine x)) onward → Lists (toLine x) × (onward ≡ formThere (toLine x))
     step-lists onward l h =
@@ -167,15 +164,15 @@ module _ (w : AtWork) (ok : firstOf (siteTests (w .stores) (w .site)) ≡ pass) 
       let l : mainSide (x .line) < 256 = omega (arith, main-below (x .line) (hands-line w ok x y)) in
       by-cases (eqb (x .direction) 0) (λ e. rw e n) (λ e. rw e l)
 
-  -- a coupler sends exactly if it makes a forwarding
+  -- a coupler sends exactly if it makes what is counted as a forwarding
 
-  fitted-at : (x : Crossing) → passes x ≡ true → isFitted (couplerOf (x .line) (recordsOf (w .site))) ≡ true
+  fitted-at : (x : Crossing) → passes x ≡ true → isFitted (ownCoupler w (x .line)) ≡ true
   unfolding lineLetsPass
   fitted-at x e =
-      let r : List ℕ = couplerOf (x .line) (recordsOf (w .site)) in
+      let r : List ℕ = ownCoupler w (x .line) in
       and-true (isFitted r) (recordPasses (w .stores) (m .group) (m .destination) (x .direction) r) (sym (asked x) ∙ e) .0
 
-  forwarding-fitted : (x : Crossing) → isForwarding passes start (m .count) x ≡ true → isFitted (couplerOf (x .line) (recordsOf (w .site))) ≡ true
+  forwarding-fitted : (x : Crossing) → isForwarding passes start (m .count) x ≡ true → isFitted (ownCoupler w (x .line)) ≡ true
   unfolding isForwarding
   forwarding-fitted x e =
       let a = and-true (isListed passes start (m .count) (fromLine x) && not (cameOver (path start (fromLine x)) (x .line)) && passes x) (not (eqb (onArrival (m .count) (distance start (fromLine x))) 0)) e in
@@ -194,7 +191,7 @@ module _ (w : AtWork) (ok : firstOf (siteTests (w .stores) (w .site)) ≡ pass) 
 
   forwarding-sends : (x : Crossing) → x .direction < 2 → isForwarding passes start (m .count) x ≡ true → FirstSends x
   forwarding-sends x side e =
-      let n : x .line ≡ 0 → ⊥ = fitted-line (w .stores) (x .line) (couplerOf (x .line) (recordsOf (w .site))) (fitted-set (w .stores) (w .site) ok (x .line) (forwarding-fitted x e)) in
+      let n : x .line ≡ 0 → ⊥ = fitted-line (w .stores) (x .line) (ownCoupler w (x .line)) (fitted-set (w .stores) (w .site) ok (x .line) (forwarding-fitted x e)) in
       let a = and-true (not (cameOver (path start (fromLine x)) (x .line))) (isListed passes start (m .count) (toLine x)) (sym (forwarding-is passes start (m .count) (x .direction) (x .line) side n) ∙ e) in
       let d : cameOver (path start (fromLine x)) (x .line) ≡ false = not-true (cameOver (path start (fromLine x)) (x .line)) (a .0) in
       let y = lists-step x (goes-on start (x .direction) (x .line) side n d) side (a .1) in
@@ -203,7 +200,7 @@ module _ (w : AtWork) (ok : firstOf (siteTests (w .stores) (w .site)) ≡ pass) 
   pub sends-iff : (x : Crossing) → FirstSends x ↔ ((x .direction < 2) × (isForwarding passes start (m .count) x ≡ true))
   sends-iff x = ((λ s. (hands-side w ok x (s .hands), sends-forwarding x s)), λ y. forwarding-sends x (y .0) (y .1))
 
-  -- and once
+  -- and if so, once
   pub sends-once : (x : Crossing) (r s : FirstSends x) → (r .octets ≡ s .octets) × ((r .way ≡ s .way) × (r .onward ≡ s .onward))
   sends-once x r s =
       let a = arrived (r .arrives) in
@@ -222,6 +219,7 @@ module _ (w : AtWork) (ok : firstOf (siteTests (w .stores) (w .site)) ≡ pass) 
       same x = (
         (λ s.
             let l : x .line < 256 = fitted-below (w .stores) (w .site) (x .line) o (fitted-set (w .stores) (w .site) ok (x .line) (s .hands .fitted)) in
-            record { side = hands-side w ok x (s .hands); some = hands-line w ok x (s .hands); most = omega arith; holds = sends-forwarding x s }),
-        (λ c. forwarding-sends x (c .side) (c .holds)),
+            let y = sends-iff x .0 s in
+            record { side = y .0; some = hands-line w ok x (s .hands); most = omega arith; holds = y .1 }),
+        (λ c. sends-iff x .1 (c .side, c .holds)),
       )

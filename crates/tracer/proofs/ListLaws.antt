@@ -14,7 +14,7 @@ use Rattle.site.specs.WellFormed.{isAmong}
 use Rattle.tracer.proofs.CountLaws.{lasts-none}
 use Rattle.tracer.proofs.Forwardings.{forwardings-listed}
 use Rattle.tracer.proofs.Paths.{by-cases, path-same, distance-same, distance-zero}
-use Rattle.tracer.proofs.ReachingLaws.{and-false, count-most}
+use Rattle.tracer.proofs.ReachingLaws.{and-yes, and-false, count-most}
 use Rattle.tracer.specs.Lines.{Crossing, path, distance}
 use Rattle.tracer.specs.Reaching.{isForwardedTo}
 use Rattle.tracer.specs.Listing.{Query, crossingPasses, isListed, onArrival, entry, eachBelow, countBelow, listed, linesListed, forwardingsBy, forwardings}
@@ -63,10 +63,6 @@ below-more n l b i h =
 or-no : (a : Bool) → a || false ≡ a
 or-no true = refl
 or-no false = refl
-
-and-yes : (a : Bool) → a && true ≡ a
-and-yes true = refl
-and-yes false = refl
 
 module _ (f : Crossing → Bool) (s c : ℕ) where
   -- the starting line is always listed

@@ -1,8 +1,8 @@
 -- The marks of the couplers, how the telegram spreads over them and the list of the lines reached, put together: that list is the
 -- definition's. Marks are known of the lines below 256, and a path between two of those crosses no other coupler.
 use Prim.Native.Nat.{ℕ, zero, suc, _-_, _≤_, _<_}
-use mathlib.Core.Bool.{Bool, true, _&&_}
-use mathlib.Core.List.{List, [], _∷_, _++_}
+use mathlib.Core.Bool.{Bool, true}
+use mathlib.Core.List.{List}
 use mathlib.Core.Path.{_≡_, refl, sym, ap, _∙_}
 use native.Mathlib.Omega.{arith}
 use lib.Dec.{eqb}
@@ -20,6 +20,7 @@ use Rattle.site.specs.Letting.{lineLetsPass, Marks}
 use Rattle.site.specs.Records.{recordsOf}
 use Rattle.site.specs.Stores.{Stores}
 use Rattle.site.specs.WellFormed.{isAmong}
+use Rattle.tracer.proofs.Crossings.{all-append}
 use Rattle.tracer.proofs.Forwardings.{count-same}
 use Rattle.tracer.proofs.ListLaws.{forwarded-lines}
 use Rattle.tracer.proofs.Paths.{by-cases, main-below, by-mains, on-zero, before-on, before-off}
@@ -47,10 +48,6 @@ module _ (f : Crossing → Bool) (s c t : ℕ) (lines : List ℕ) (e : getD line
   entry-by =
       let q : isListed f s c t ≡ true → getD lines t 0 - 1 ≡ distance s t = λ h. omega (arith, e, rw h at (reach-listed f s c t)) in
       rw reached-listed (by-cases (isListed f s c t) (λ h. rw (h, q h) refl) (λ h. rw h refl))
-
-all-append : (f : Crossing → Bool) (p q : List Crossing) → allPass f (p ++ q) ≡ allPass f p && allPass f q
-all-append f [] q = refl
-all-append f (x ∷ p) q = by-cases (f x) (λ e. rw e (all-append f p q)) (λ e. rw e refl)
 
 -- two tests that agree at every coupler of a line below 256
 module _ (f g : Crossing → Bool) (downs : (n : ℕ) → n < 256 → f (down n) ≡ g (down n)) (ups : (n : ℕ) → n < 256 → f (up n) ≡ g (up n)) where

@@ -39,6 +39,10 @@ handed-on : (c d : ℕ) (b : Bool) → handed c (suc d) b ≡ cond (b && lasts c
 unfolding handed
 handed-on c d b = rw (lt-ltb 0 (suc d) (omega arith))
 
+pub and-yes : (a : Bool) → a && true ≡ a
+and-yes true = refl
+and-yes false = refl
+
 pub and-false : (a : Bool) → a && false ≡ false
 and-false true = refl
 and-false false = refl

@@ -1,10 +1,9 @@
 -- What the couplers of a site do: a first sending put on the starting line is handed on from line to line by each coupler's step, whatever
--- that coupler remembers, never back over the coupler by which it came. The backbone, line 00h, is TP1 or IP; every other line is TP1.
+-- that coupler remembers, never back over the coupler by which it came. The backbone, line 00h, is TP1 or IP.
 use Prim.Native.Nat.{ℕ, _≤_, _<_}
-use mathlib.Core.Bool.{Bool, true, false, cond, _&&_}
+use mathlib.Core.Bool.{Bool, true, false, not, cond, _&&_}
 use mathlib.Core.List.{List, [], _∷_, _++_}
 use mathlib.Core.Path.{_≡_}
-use lib.Dec.{eqb}
 use lib.ListN.{length, take}
 use Rattle.coupler.specs.Step.{Setting, settingOf, readBy, indication, Did, frame}
 use Rattle.coupler.specs.declared.Memory.{Memory}
@@ -17,37 +16,41 @@ use Rattle.tp1.specs.Layout.{tp1Octets}
 use Rattle.tracer.specs.Lines.{mainSide, Crossing, fromLine, toLine, cameOver}
 use Rattle.tracer.specs.Listing.{Query, queryOf}
 
--- a site at work: its stores and records, what the coupler of each line remembers (anything, also what no frame is), and whether the
--- backbone is on IP
+-- a site at work: its stores and records, what the coupler of each line remembers (anything, also what no frame is), and which lines are
+-- meant to be IP
 pub record AtWork : Type 0 where
   pub stores : Stores
   pub site : List ℕ
   pub memories : ℕ → Memory
-  pub onIp : Bool
+  pub meantIp : ℕ → Bool
 
--- "The main side is TP1 or IP; the sub side is TP1": so of all lines 00h alone may be IP, being nobody's sub side
+-- the record of the coupler of a line; no octets if there is none
+abbrev pub ownCoupler : AtWork → ℕ → List ℕ
+ownCoupler w line = couplerOf line (recordsOf (w .site))
+
+-- "The main side is TP1 or IP; the sub side is TP1": so a line may be IP where it is no coupler's sub side, as 00h is none's
 abbrev pub isIp : AtWork → ℕ → Bool
-isIp w line = w .onIp && eqb line 0
+isIp w line = w .meantIp line && not (isFitted (ownCoupler w line))
 
 -- a telegram in the form of a line: a TP1 frame, or "on IP .. a plain indication in a routing datagram"
 unfoldable pub formOn : AtWork → ℕ → Meaning → List ℕ → List ℕ
 formOn w line m p = cond (isIp w line) (routingOctets (indication m) p) (tp1Octets m p)
 
--- the coupler of a line as its record in the site sets it, with a frame received from a side (0 main, 1 sub); its main medium is that of the
--- line on its main side (0 TP1, 1 IP)
+-- the coupler of a line as its record in the site sets it, with a frame received from a side (0 main, 1 sub); its main medium (0 TP1, 1 IP)
+-- is that of the line on its main side
 abbrev pub settingBy : AtWork → List ℕ → ℕ → Setting
 settingBy w r side = settingOf (lineOf r) (codesOf r) (tableOf (tableNumber r) (w .stores)) side (cond (isIp w (mainSide (lineOf r))) 1 0)
 
 -- a crossing is made: the coupler is fitted, and a call of its step that is given these octets, received from the side that the crossing
--- leads from, leaves these others to be sent onward (a room below 272 would be refused)
+-- leads from, leaves these others to be sent onward; "13 (room below 272)"
 pub record Hands (w : AtWork) (x : Crossing) (octets onward : List ℕ) : Type 0 where
-  pub fitted : isFitted (couplerOf (x .line) (recordsOf (w .site))) ≡ true
+  pub fitted : isFitted (ownCoupler w (x .line)) ≡ true
   pub room : List ℕ
   pub enough : 272 ≤ length room
   pub outcome : Outcome
   pub memory : Memory
   pub left : List ℕ
-  pub steps : Did (settingBy w (couplerOf (x .line) (recordsOf (w .site))) (x .direction)) (w .memories (x .line)) octets room outcome memory left
+  pub steps : Did (settingBy w (ownCoupler w (x .line)) (x .direction)) (w .memories (x .line)) octets room outcome memory left
   pub sends : take (outcome .forwarded) left ≡ onward
   pub some : length onward ≡ 0 → ⊥
 
