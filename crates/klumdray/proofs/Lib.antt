@@ -1,2 +1,10 @@
 pub mod Surface
 pub mod BlockLaws
+pub mod Bits
+pub mod Telling
+pub mod ReaderNumbers
+pub mod WriterNumbers
+pub mod StepNumbers
+pub mod TracerNumbers
+pub mod ListInRoom
+pub mod Parts

@@ -1,4 +1,5 @@
 pub mod Numbers
 pub mod Block
 pub mod Traces
+pub mod Decoding
 pub mod Stages

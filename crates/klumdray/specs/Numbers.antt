@@ -17,10 +17,13 @@ use Rattle.frame.specs.declared.Meaning.{Meaning}
 use Rattle.frame.specs.declared.Written.{Written}
 use Rattle.octets.specs.Octets.{weigh}
 use Rattle.routing.specs.Layout.{routingOctets}
+use Rattle.routing.specs.Reading.{readRouting, routedPayload}
 use Rattle.tp1.specs.Layout.{tp1Octets}
+use Rattle.tp1.specs.Reading.{readTp1, payloadIn}
 use Rattle.tp1.specs.declared.Tp1Answer.the-variants.{Frame, Refused}
 use Rattle.tp1.specs.declared.Tp1Answer.{Tp1Answer}
 use Rattle.frame.specs.declared.Written.the-variants.{Put, Refused as Unwritten}
+use Rattle.cemi.specs.Reading.{readCemi, payloadIn as cemiPayload}
 use Rattle.cemi.specs.declared.CemiAnswer.the-variants.{Frame as Message-is, Refused as Message-not}
 
 -- one octet: format (bit 0), repeat flag (1), priority (2 and 3), AT (4), hop count (5 to 7)
@@ -47,6 +50,16 @@ messageNumber x payload = meaningNumber (x .meaning) payload + (codeNumber (x .c
 abbrev pub cemiNumber : CemiAnswer → ℕ → ℕ
 cemiNumber (Message-is x) payload = messageNumber x payload
 cemiNumber (Message-not r) payload = number r
+
+-- what the readers answer: the inner call's answer, and the length of the payload that it hands out
+abbrev pub tp1Answered : List ℕ → ℕ
+tp1Answered s = tp1Number (readTp1 s) (length (payloadIn (readTp1 s) s))
+
+abbrev pub cemiAnswered : List ℕ → ℕ
+cemiAnswered s = cemiNumber (readCemi All s) (length (cemiPayload (readCemi All s) s))
+
+abbrev pub routingAnswered : List ℕ → ℕ
+routingAnswered s = cemiNumber (readRouting s) (length (routedPayload (readRouting s) s))
 
 -- format, repeat flag and AT are given as 0 or 1
 unfoldable pub areFlags : ℕ → ℕ → ℕ → Bool

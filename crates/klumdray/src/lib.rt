@@ -5,19 +5,14 @@ mod traces;
 
 ghost use mathlib.Core.Path.{_≡_};
 ghost use mathlib.Core.Bool.{_&&_};
-ghost use lib.ListN.{length};
 ghost use Rattle.octets.specs.Check.{checkOctet};
 ghost use lib.Dec.{ltb};
-ghost use Rattle.tp1.specs.Reading.{readTp1, payloadIn};
-ghost use Rattle.cemi.specs.declared.Codes.the-variants.{All};
-ghost use Rattle.cemi.specs.Reading.{readCemi, payloadIn as cemiPayload};
-ghost use Rattle.routing.specs.Reading.{readRouting, routedPayload};
 ghost use Rattle.coupler.specs.Step.{settingOf};
 ghost use Rattle.site.specs.Stores.{stores};
 ghost use Rattle.tracer.specs.Listing.{queryOf};
 ghost use Rattle.tracer.specs.Why.{answerWhy};
 ghost use Rattle.klumdray.specs.Block.{codesIn, lentRight, SteppedThrough};
-ghost use Rattle.klumdray.specs.Numbers.{tp1Number, cemiNumber, areFlags, meaningFrom, messageFrom, WroteTp1, WroteCemi, WroteRouting};
+ghost use Rattle.klumdray.specs.Numbers.{tp1Answered, cemiAnswered, routingAnswered, areFlags, meaningFrom, messageFrom, WroteTp1, WroteCemi, WroteRouting};
 ghost use Rattle.klumdray.specs.Traces.{explanationNumber, TracedThrough};
 use cemi::Codes;
 
@@ -30,7 +25,7 @@ pub extern "C" fn klumdray_check_octet(octets: &[u8]) -> u8
 
 #[no_mangle]
 pub extern "C" fn klumdray_tp1_read(octets: &[u8]) -> u64
-    ensures { λ r. ⌜ r ≡ tp1Number (readTp1 (now (octets .entry))) (length (payloadIn (readTp1 (now (octets .entry))) (now (octets .entry)))) ⌝ }
+    ensures { λ r. ⌜ r ≡ tp1Answered (now (octets .entry)) ⌝ }
 {
     let answer = tp1::read(octets);
     let payload = tp1::payload(answer, octets);
@@ -70,7 +65,7 @@ pub extern "C" fn klumdray_tp1_write(
 
 #[no_mangle]
 pub extern "C" fn klumdray_cemi_read(octets: &[u8]) -> u64
-    ensures { λ r. ⌜ r ≡ cemiNumber (readCemi All (now (octets .entry))) (length (cemiPayload (readCemi All (now (octets .entry))) (now (octets .entry)))) ⌝ }
+    ensures { λ r. ⌜ r ≡ cemiAnswered (now (octets .entry)) ⌝ }
 {
     let answer = cemi::read(Codes::All, octets);
     let payload = cemi::payload(answer, octets);
@@ -114,7 +109,7 @@ pub extern "C" fn klumdray_cemi_write(
 
 #[no_mangle]
 pub extern "C" fn klumdray_routing_read(octets: &[u8]) -> u64
-    ensures { λ r. ⌜ r ≡ cemiNumber (readRouting (now (octets .entry))) (length (routedPayload (readRouting (now (octets .entry))) (now (octets .entry)))) ⌝ }
+    ensures { λ r. ⌜ r ≡ routingAnswered (now (octets .entry)) ⌝ }
 {
     let answer = routing::read(octets);
     let payload = routing::payload(answer, octets);

@@ -1,0 +1,215 @@
+-- The numbers that cross the surface, taken apart again: what the helpers at the end of include/klumdray.h work out, each under its name
+-- there. Beside them the whole answer, as document 01's number and values.
+use Prim.Native.Nat.{ℕ, _+_, _-_, _*_, _/_, _%_, _^_, _≤_, _<_}
+use mathlib.Core.Bool.{Bool, true, cond}
+use mathlib.Core.List.{List, [], _∷_}
+use mathlib.Core.Logic.{_↔_}
+use mathlib.Core.Path.{_≡_}
+use lib.Dec.{ltb, eqb}
+use lib.ListN.{length, take, drop, getD}
+use Rattle.coupler.specs.Answers.{acknowledgementNumber}
+use Rattle.coupler.specs.declared.Outcome.{Outcome}
+use Rattle.frame.specs.Answers.{Numbered}
+use Rattle.frame.specs.Refusals.{number}
+use Rattle.frame.specs.declared.Refusal.{Refusal}
+use Rattle.octets.specs.Octets.{octetAt, weigh}
+use Rattle.octets.specs.Word.{wordAt}
+use Rattle.tracer.specs.Lines.{Crossing, distance}
+use Rattle.tracer.specs.Listing.{isListed, onArrival}
+use Rattle.tracer.specs.declared.Traced.{Traced}
+
+-- so many bits of a number from a bit on, the bit 0 being worth 1: a shift and a mask
+abbrev pub bits : ℕ → ℕ → ℕ → ℕ
+bits from width n = n / 2 ^ from % 2 ^ width
+
+-- klumdray_number, of any answer
+abbrev pub numberIn : ℕ → ℕ
+numberIn n = bits 0 8 n
+
+-- klumdray_written
+abbrev pub writtenIn : ℕ → ℕ
+writtenIn n = bits 8 56 n
+
+-- klumdray_extended, klumdray_first_sending, klumdray_priority, klumdray_group, klumdray_count
+abbrev pub extendedIn : ℕ → ℕ
+extendedIn n = bits 8 1 n
+
+abbrev pub firstSendingIn : ℕ → ℕ
+firstSendingIn n = bits 9 1 n
+
+abbrev pub priorityIn : ℕ → ℕ
+priorityIn n = bits 10 2 n
+
+abbrev pub groupIn : ℕ → ℕ
+groupIn n = bits 12 1 n
+
+abbrev pub countIn : ℕ → ℕ
+countIn n = bits 13 3 n
+
+-- klumdray_source, klumdray_destination, klumdray_payload_length
+abbrev pub sourceIn : ℕ → ℕ
+sourceIn n = bits 16 16 n
+
+abbrev pub destinationIn : ℕ → ℕ
+destinationIn n = bits 32 16 n
+
+abbrev pub payloadLengthIn : ℕ → ℕ
+payloadLengthIn n = bits 48 8 n
+
+-- klumdray_message, klumdray_message_code, klumdray_error_mark
+abbrev pub codeNumberIn : ℕ → ℕ
+codeNumberIn n = bits 56 2 n
+
+abbrev pub messageCodeIn : ℕ → ℕ
+messageCodeIn n = getD (0x00 ∷ 0x11 ∷ 0x2E ∷ 0x29 ∷ []) (codeNumberIn n) 0
+
+abbrev pub errorMarkIn : ℕ → ℕ
+errorMarkIn n = bits 58 1 n
+
+-- klumdray_acknowledgement, klumdray_own, klumdray_forwarded
+abbrev pub acknowledgementIn : ℕ → ℕ
+acknowledgementIn n = bits 8 8 n
+
+abbrev pub ownIn : ℕ → ℕ
+ownIn n = bits 16 1 n
+
+abbrev pub forwardedIn : ℕ → ℕ
+forwardedIn n = bits 32 32 n
+
+-- klumdray_listed, klumdray_forwardings
+abbrev pub linesIn : ℕ → ℕ
+linesIn n = bits 8 16 n
+
+abbrev pub forwardingsIn : ℕ → ℕ
+forwardingsIn n = bits 24 16 n
+
+-- klumdray_reason, klumdray_stopping_line, klumdray_stopping_side
+abbrev pub reasonIn : ℕ → ℕ
+reasonIn n = bits 8 8 n
+
+abbrev pub stoppingLineIn : ℕ → ℕ
+stoppingLineIn n = bits 16 8 n
+
+abbrev pub stoppingSideIn : ℕ → ℕ
+stoppingSideIn n = bits 24 1 n
+
+-- whole answers: the number, and the values where it is 0
+abbrev pub numberedBy : ℕ → List ℕ → Numbered
+numberedBy n values = record { number = numberIn n; values = cond (eqb (numberIn n) 0) values [] }
+
+abbrev pub meaningValuesIn : ℕ → List ℕ
+meaningValuesIn n =
+    extendedIn n
+    ∷ firstSendingIn n
+    ∷ priorityIn n
+    ∷ sourceIn n
+    ∷ groupIn n
+    ∷ destinationIn n
+    ∷ countIn n
+    ∷ []
+
+abbrev pub tp1From : ℕ → Numbered
+tp1From n = numberedBy n (meaningValuesIn n)
+
+abbrev pub cemiFrom : ℕ → Numbered
+cemiFrom n = numberedBy n (messageCodeIn n ∷ errorMarkIn n ∷ meaningValuesIn n)
+
+abbrev pub writtenFrom : ℕ → Numbered
+writtenFrom n = numberedBy n (writtenIn n ∷ [])
+
+-- the reason 0 is "the line is reached"
+abbrev pub explanationFrom : ℕ → Numbered
+explanationFrom n = numberedBy n (cond (eqb (reasonIn n) 0) [] (reasonIn n ∷ stoppingLineIn n ∷ stoppingSideIn n ∷ []))
+
+-- "The step's result: number, acknowledgement or none, for itself or not, octets forwarded (0 if none). On a refusal: its number, none, not, 0."
+abbrev pub outcomeNumbered : Outcome → Numbered
+outcomeNumbered o = record { number = o .number; values = acknowledgementNumber (o .acknowledgement) ∷ weigh (o .own) 1 ∷ o .forwarded ∷ [] }
+
+abbrev pub outcomeFrom : ℕ → Numbered
+outcomeFrom n = record { number = numberIn n; values = acknowledgementIn n ∷ ownIn n ∷ forwardedIn n ∷ [] }
+
+-- how many lines are listed, and "the number of forwardings made on the site"; with a refusal 0 and 0
+abbrev pub tracedNumbered : Traced → Numbered
+tracedNumbered t = record { number = t .number; values = t .lines ∷ t .forwardings ∷ [] }
+
+abbrev pub tracedFrom : ℕ → Numbered
+tracedFrom n = record { number = numberIn n; values = linesIn n ∷ forwardingsIn n ∷ [] }
+
+-- where parts of the caller's own octets begin, and how many octets they have
+
+-- klumdray_tp1_payload_start
+abbrev pub tp1PayloadStart : ℕ → ℕ
+tp1PayloadStart n = cond (eqb (extendedIn n) 0) 6 7
+
+-- klumdray_cemi_payload_start and klumdray_routing_payload_start, of so many octets
+abbrev pub messagePayloadStart : ℕ → ℕ → ℕ
+messagePayloadStart n size = size - payloadLengthIn n
+
+-- klumdray_cemi_information_start, klumdray_cemi_information_length
+abbrev pub cemiInformationStart : ℕ
+cemiInformationStart = 2
+
+abbrev pub cemiInformationLength : ℕ → ℕ → ℕ
+cemiInformationLength n size = size - payloadLengthIn n - 9
+
+-- klumdray_routing_information_start, klumdray_routing_information_length
+abbrev pub routingInformationStart : ℕ
+routingInformationStart = 8
+
+abbrev pub routingInformationLength : ℕ → ℕ → ℕ
+routingInformationLength n size = size - payloadLengthIn n - 15
+
+-- a part by where it starts and its size: it lies within the octets, at the very place where the inner call's part lies, and holds the same
+pub record Lies (s : List ℕ) (start size place : ℕ) (part : List ℕ) : Type 0 where
+  pub within : start + size ≤ length s
+  pub at : start ≡ place
+  pub holds : take size (drop start s) ≡ part
+
+-- the parts of an accepted message or datagram: additional information, Ctrl1 to LG, and the payload to the end. (So no difference in the
+-- formulas goes below 0.)
+pub record MessageParts (s : List ℕ) (answer start size : ℕ) (informationPlace : ℕ) (informationPart : List ℕ) (payloadPlace : ℕ) (payloadPart : List ℕ) : Type 0 where
+  pub information : Lies s start size informationPlace informationPart
+  pub payload : Lies s (messagePayloadStart answer (length s)) (payloadLengthIn answer) payloadPlace payloadPart
+  pub between : start + size + 7 ≡ messagePayloadStart answer (length s)
+  pub end : messagePayloadStart answer (length s) + payloadLengthIn answer ≡ length s
+
+-- klumdray_remembered_part, klumdray_remembered_size, klumdray_remembered: where a side's part of a step's memory begins, the size of the
+-- frame remembered of it, and where that frame begins
+abbrev pub rememberedPart : ℕ → ℕ
+rememberedPart side = cond (eqb side 1) 265 0
+
+abbrev pub rememberedSize : List ℕ → ℕ → ℕ
+rememberedSize block side = cond (ltb 263 (wordAt block (rememberedPart side))) 0 (wordAt block (rememberedPart side))
+
+abbrev pub rememberedStart : ℕ → ℕ
+rememberedStart side = rememberedPart side + 2
+
+-- klumdray_listed_line, klumdray_listed_count, klumdray_listed_crossed: of the listed line at a place, counted from 0, in a trace's room
+abbrev pub listedLine : List ℕ → ℕ → ℕ
+listedLine room place = octetAt room (3 * place)
+
+abbrev pub listedCount : List ℕ → ℕ → ℕ
+listedCount room place = octetAt room (3 * place + 1)
+
+abbrev pub listedCrossed : List ℕ → ℕ → ℕ
+listedCrossed room place = octetAt room (3 * place + 2)
+
+-- "Each listed line takes three octets: line, count on arrival .., couplers crossed": what a place of the room says
+pub record ListedAt (passes : Crossing → Bool) (start count : ℕ) (room : List ℕ) (place : ℕ) : Type 0 where
+  pub listed : isListed passes start count (listedLine room place) ≡ true
+  pub arrives : listedCount room place ≡ onArrival count (distance start (listedLine room place))
+  pub crossed : listedCrossed room place ≡ distance start (listedLine room place)
+
+-- the list as the helpers read it off a trace's answer and room: each place has a listed line, the lines rise, and every listed line has a place
+pub record ListIs (passes : Crossing → Bool) (start count : ℕ) (answer : ℕ) (room : List ℕ) : Type 0 where
+  pub places : (place : ℕ) → place < linesIn answer → ListedAt passes start count room place
+  pub rising : (place later : ℕ) → place < later → later < linesIn answer → listedLine room place < listedLine room later
+  pub each : (line : ℕ) → line < 256 → isListed passes start count line ≡ true → (place : ℕ) × ((place < linesIn answer) × (listedLine room place ≡ line))
+
+-- what an answer says: it has no bit above its width; taken apart it is the inner call's answer; it is a refusal's number, so that "every bit
+-- above 7 is 0", exactly if the inner call refuses by it; and bits 0 to 7 are 0 exactly if it refuses nothing
+pub record Tells (width : ℕ) (from : ℕ → Numbered) (answer : ℕ) (inner : Numbered) (Refused : Refusal → Type 0) : Type 0 where
+  pub fits : answer < 2 ^ width
+  pub decoded : from answer ≡ inner
+  pub refused : (r : Refusal) → answer ≡ number r ↔ Refused r
+  pub accepted : numberIn answer ≡ 0 ↔ ((r : Refusal) → Refused r → ⊥)
