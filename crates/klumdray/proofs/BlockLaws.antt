@@ -120,7 +120,7 @@ octets-of : (A B : List ℕ) → length A ≡ 265 → Octets (A ++ B) → Octets
 octets-of A B n o = (subst Octets (take-at A B 265 n) (octets-take 265 (A ++ B) o), subst Octets (drop-at A B 265 n) (octets-drop 265 (A ++ B) o))
 
 -- the block as it was is its memory's
-unchanged-block : (block : List ℕ) → length block ≡ 530 → Octets block → block ≡ blockOf (memoryIn block)
+pub unchanged-block : (block : List ℕ) → length block ≡ 530 → Octets block → block ≡ blockOf (memoryIn block)
 unfolding blockOf
 unchanged-block block n =
     in-halves (λ (l : List ℕ). Octets l → l ≡ blockOf (memoryIn l)) block n (λ A B na nb o.
@@ -129,7 +129,7 @@ unchanged-block block n =
     sym (e ∙ ap (λ (l : List ℕ). l ++ halfOf (rememberedIn B)) (half-back A na (q .0)) ∙ ap (λ (l : List ℕ). A ++ l) (half-back B nb (q .1))))
 
 -- a frame put into a side's half
-remembered-block : (block s : List ℕ) (side : ℕ) → length block ≡ 530 → length s ≤ 263 → Octets block → rememberedAt (startOf side) s block ≡ blockOf (rememberedOn (memoryIn block) side s)
+pub remembered-block : (block s : List ℕ) (side : ℕ) → length block ≡ 530 → length s ≤ 263 → Octets block → rememberedAt (startOf side) s block ≡ blockOf (rememberedOn (memoryIn block) side s)
 unfolding blockOf rememberedOn
 remembered-block block s side n k =
     in-halves (λ (l : List ℕ). Octets l → rememberedAt (startOf side) s l ≡ blockOf (rememberedOn (memoryIn l) side s)) block n (λ A B na nb o. put A B na nb (octets-of A B na o) (eqb side 0) refl)

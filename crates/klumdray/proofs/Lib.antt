@@ -8,3 +8,4 @@ pub mod StepNumbers
 pub mod TracerNumbers
 pub mod ListInRoom
 pub mod Parts
+pub mod Remembered

@@ -24,6 +24,7 @@ use Rattle.klumdray.proofs.Telling.{number-most, number-alone, tells-re
 use Rattle.klumdray.specs.Decoding.{numberIn, linesIn, forwardingsIn, tracedNumbered, tracedFrom, explanationFrom, Tells}
 use Rattle.klumdray.specs.Traces.{tracedNumber, explanationNumber, TracedThrough}
 use Rattle.octets.proofs.Below.{and-true}
+use Rattle.octets.specs.Room.{over}
 use Rattle.site.specs.Stores.{Stores}
 use Rattle.site.specs.WellFormed.{isAmong}
 use Rattle.tracer.proofs.Explained.{not-reached}
@@ -33,7 +34,7 @@ use Rattle.tracer.proofs.ReachingLaws.{count-most}
 use Rattle.tracer.specs.Answers.{explanationNumbered}
 use Rattle.tracer.specs.Lines.{Crossing, mainSide, depth, mainSides, mainSidesBy, beforeCommon, down, upOver, downOver, path}
 use Rattle.tracer.specs.Listing.{Query, crossingPasses, isListed, countBelow, linesListed, isForwardedTo, forwardings}
-use Rattle.tracer.specs.Tracing.{isQuery, traceTests, tracedBy}
+use Rattle.tracer.specs.Tracing.{isQuery, traceTests, tracedBy, listBy}
 use Rattle.tracer.specs.Why.{whyOf, whyTests, answerWhy}
 use Rattle.tracer.specs.declared.Explanation.{Explanation}
 use Rattle.tracer.specs.declared.Explanation.the-variants.{Reached, NotReached, Refused}
@@ -118,6 +119,14 @@ module _ (st : Stores) (site : List ℕ) (q : Query) where
             let some : 1 ≤ linesListed st site q = lines-some st site q h in
             (rw (n .0) some, (rw (n .0) (lines-most st site q), rw (n .0, n .1, trace-less-one st site q h) (omega arith)))
         go (refuse r) e = absurd (trace-told .accepted .0 z r e)
+
+    -- refused: the room as it was
+    pub trace-leaves : (numberIn answer ≡ 0 → ⊥) → room′ ≡ room
+    trace-leaves n = go (firstOf (traceTests st site q (length room))) refl
+      where
+        go : (v : Verdict) → firstOf (traceTests st site q (length room)) ≡ v → room′ ≡ room
+        go pass e = absurd (n (trace-told .accepted .1 (λ r f. verdict-refused r (sym e ∙ f))))
+        go (refuse r) e = w .left ∙ ap (λ (v : Verdict). over (listBy st site q v) room) e
 
 -- what stops a telegram: a crossing of the path, between lines below 256
 

@@ -1,0 +1,198 @@
+-- The block as the header's helpers read it: what a side remembers. After an accepted TP1 frame that is the frame; and a refused step leaves
+-- block and room as they were.
+use Prim.Native.Nat.{ℕ, _+_, _%_, _≤_, _<_}
+use mathlib.Core.Bool.{Bool, true, false, cond, _&&_}
+use mathlib.Core.List.{List, [], _∷_}
+use mathlib.Core.Path.{_≡_, refl, sym, ap, _∙_}
+use native.Mathlib.Omega.{arith}
+use lib.Dec.{ltb, leb, eqb}
+use lib.ListN.{length, take, drop, length-append, length-drop}
+use lib.Seq.{length-take-le, take-all, take-at, drop-at}
+use borrow.Author.Tests.{ltb-true, ltb-false, leb-true, leb-false, le-ltb, lt-ltb, eqb-true, eqb-false, not-false}
+use Rattle.coupler.proofs.Promised.{remembers-main, remembers-sub}
+use Rattle.coupler.proofs.Refusals.{accepted-iff}
+use Rattle.coupler.proofs.StepLaws.{heard-size}
+use Rattle.coupler.specs.Memory.{recalled, remembering, sideOf, rememberedOn}
+use Rattle.coupler.specs.Step.{Setting, Heard, frame, nothing, heard, fromIp}
+use Rattle.coupler.specs.declared.Memory.{Memory}
+use Rattle.coupler.specs.declared.Remembered.{Remembered}
+use Rattle.frame.specs.declared.Meaning.{Meaning}
+use Rattle.frame.specs.declared.Refusal.{Refusal}
+use Rattle.frame.specs.declared.Refusal.the-variants.{OutOfRange}
+use Rattle.klumdray.proofs.BlockLaws.{recalled-block, unchanged-block, remembered-block}
+use Rattle.klumdray.proofs.StepNumbers.{step-told}
+use Rattle.klumdray.specs.Block.{rememberedIn, memoryIn, halfOf, blockOf, heardThrough, SteppedThrough}
+use Rattle.klumdray.specs.Decoding.{numberIn, rememberedPart, rememberedSize, rememberedStart}
+use Rattle.klumdray.specs.Stages.{startOf, rememberedAt}
+use Rattle.octets.proofs.Below.{and-true}
+use Rattle.octets.proofs.Room.{laid-front}
+use Rattle.octets.proofs.Word.{word-back}
+use Rattle.octets.specs.Octets.{Octets}
+use Rattle.octets.specs.Room.{laid}
+use Rattle.octets.specs.Word.{wordAt, high, low}
+
+-- a side's half begins where the contract has it
+same-part : (side : ℕ) → side < 2 → rememberedPart side ≡ startOf side
+same-part side h = go (eqb side 1) (eqb side 0) refl refl
+  where
+    go : (a b : Bool) → eqb side 1 ≡ a → eqb side 0 ≡ b → _≡_ {A = ℕ} (cond a 265 0) (cond b 0 265)
+    go true true e f = absurd (omega (arith, eqb-true side 1 e, eqb-true side 0 f))
+    go true false e f = refl
+    go false true e f = refl
+    go false false e f = let x : side ≡ 1 → ⊥ = eqb-false side 1 e in let y : side ≡ 0 → ⊥ = eqb-false side 0 f in absurd (omega (arith, x, y))
+
+same-size : (n : ℕ) → cond (ltb 263 n) 0 n ≡ cond (leb n 263) n 0
+same-size n = go (leb n 263) refl
+  where
+    go : (b : Bool) → leb n 263 ≡ b → cond (ltb 263 n) 0 n ≡ cond (leb n 263) n 0
+    go true e = rw (e, le-ltb 263 n (leb-true n 263 e))
+    go false e = rw (e, lt-ltb 263 n (leb-false n 263 e))
+
+part-most : (side : ℕ) → rememberedPart side ≤ 265
+part-most side = go (eqb side 1)
+  where
+    go : (b : Bool) → cond b 265 0 ≤ 265
+    go true = omega arith
+    go false = omega arith
+
+size-most : (n : ℕ) → cond (ltb 263 n) 0 n ≤ 263
+size-most n = go (ltb 263 n) refl
+  where
+    go : (b : Bool) → ltb 263 n ≡ b → cond b 0 n ≤ 263
+    go true e = omega arith
+    go false e = ltb-false 263 n e
+
+module _ (block : List ℕ) (side : ℕ) (n : length block ≡ 530) (h : side < 2) where
+  pub remembered-is : take (rememberedSize block side) (drop (rememberedStart side) block) ≡ recalled (sideOf (memoryIn block) side)
+  remembered-is = rw (same-part side h, same-size (wordAt block (startOf side))) (recalled-block block side n)
+
+  pub remembered-within : rememberedStart side + rememberedSize block side ≤ 530
+  remembered-within = omega (arith, part-most side, size-most (wordAt block (rememberedPart side)))
+
+-- a memory put into a block is read out of it again
+
+half-length : (r : Remembered) → length (r .octets) ≡ 263 → length (halfOf r) ≡ 265
+half-length r n = omega arith
+
+half-read : (r : Remembered) → length (r .octets) ≡ 263 → rememberedIn (halfOf r) ≡ r
+half-read r n =
+    let o : take 263 (r .octets) ≡ r .octets = take-all 263 (r .octets) (omega arith) in
+    let w : wordAt (halfOf r) 0 ≡ r .size = word-back (r .size) in
+    λ i. record { size = w i; octets = o i }
+
+module _ (m : Memory) (a : length (m .main .octets) ≡ 263) (b : length (m .sub .octets) ≡ 263) where
+  block-length : length (blockOf m) ≡ 530
+  unfolding blockOf
+  block-length = rw (length-append (halfOf (m .main)) (halfOf (m .sub))) (omega arith)
+
+  block-read : memoryIn (blockOf m) ≡ m
+  unfolding blockOf
+  block-read =
+      let x : take 265 (blockOf m) ≡ halfOf (m .main) = take-at (halfOf (m .main)) (halfOf (m .sub)) 265 (half-length (m .main) a) in
+      let y : drop 265 (blockOf m) ≡ halfOf (m .sub) = drop-at (halfOf (m .main)) (halfOf (m .sub)) 265 (half-length (m .main) a) in
+      λ i. record { main = (ap rememberedIn x ∙ half-read (m .main) a) i; sub = (ap rememberedIn y ∙ half-read (m .sub) b) i }
+
+remembering-length : (r : Remembered) (s : List ℕ) → length (r .octets) ≡ 263 → length s ≤ 263 → length (remembering r s .octets) ≡ 263
+unfolding remembering
+remembering-length r s n k = rw (laid-front s (r .octets) (omega arith), length-append s (drop (length s) (r .octets)), length-drop (length s) (r .octets)) (omega arith)
+
+-- an accepted step: codes and block have their sizes, and a frame was heard
+record Accepted (right : Bool) (h : Heard) : Type 0 where
+  lent : right ≡ true
+  meaning : Meaning
+  payload : List ℕ
+  hears : h ≡ frame meaning payload
+
+through-accepted : (right : Bool) (k : Setting) (s : List ℕ) (n : ℕ) → ((r : Refusal) → heardThrough right k s n ≡ nothing r → ⊥) → Accepted right (heard k s n)
+unfolding heardThrough
+through-accepted true k s n none = go (heard k s n) refl
+  where
+    go : (h : Heard) → heard k s n ≡ h → Accepted true (heard k s n)
+    go (frame m p) e = record { lent = refl; meaning = m; payload = p; hears = e }
+    go (nothing r) e = absurd (none r e)
+through-accepted false k s n none = absurd (none OutOfRange refl)
+
+octets-263 : (half : List ℕ) → length half ≡ 265 → length (rememberedIn half .octets) ≡ 263
+octets-263 half n = length-take-le 263 (drop 2 half) (rw length-drop (omega arith))
+
+-- what a side recalls after a frame was put into its place, in a memory that keeps its shape
+record Recalls (m : Memory) (side : ℕ) (s : List ℕ) : Type 0 where
+  frame : recalled (sideOf m side) ≡ s
+  main : length (m .main .octets) ≡ 263
+  sub : length (m .sub .octets) ≡ 263
+
+recalls-put : (m : Memory) (side : ℕ) (s : List ℕ) → side < 2 → length (m .main .octets) ≡ 263 → length (m .sub .octets) ≡ 263 → length s ≤ 263 → Recalls (rememberedOn m side s) side s
+unfolding rememberedOn
+recalls-put m side s h a b l = go (eqb side 0) refl
+  where
+    go : (z : Bool) → eqb side 0 ≡ z → Recalls (rememberedOn m side s) side s
+    go true e = rw (eqb-true side 0 e) (record { frame = remembers-main m s a l .0; main = remembering-length (m .main) s a l; sub = b })
+    go false e =
+        let d : side ≡ 0 → ⊥ = eqb-false side 0 e in
+        let one : side ≡ 1 = omega (arith, d) in
+        rw one (record { frame = remembers-sub m s b l .0; main = a; sub = remembering-length (m .sub) s b l })
+
+module _ {right : Bool} {k : Setting} {block s room : List ℕ} {answer : ℕ} {block′ room′ : List ℕ} (lent : right ≡ true → length block ≡ 530) (os : Octets s) (w : SteppedThrough right k block s room answer block′ room′) where
+  accepted : numberIn answer ≡ 0 → Accepted right (heard k s (length room))
+  accepted z = through-accepted right k s (length room) (step-told os w .accepted .0 z)
+
+  -- an accepted TP1 frame: its side is one of the two, it fits the block, and the block holds it
+  record Kept : Type 0 where
+    size : length block ≡ 530
+    side : k .side < 2
+    fits : length s ≤ 263
+    put : block′ ≡ blockOf (rememberedOn (memoryIn block) (k .side) s)
+
+  kept : numberIn answer ≡ 0 → fromIp k ≡ false → Kept
+  unfolding heardThrough
+  kept z f =
+      let a = accepted z in
+      let none = accepted-iff k s (length room) (a .meaning) (a .payload) .0 (a .hears) .0 in
+      record {
+        size = lent (a .lent);
+        side = ltb-true (k .side) 2 (and-true (ltb (k .side) 2) (ltb (k .medium) 2) (not-false (ltb (k .side) 2 && ltb (k .medium) 2) (none .1 .1 .0)) .0);
+        fits = heard-size k s (length room) (a .meaning) (a .payload) os (a .hears) f;
+        put = w .memory ∙ rw (a .lent, a .hears, f);
+      }
+
+  -- size and frame in the side's part, all else as it was
+  pub step-remembers : Octets block → numberIn answer ≡ 0 → fromIp k ≡ false
+      → block′ ≡ laid s (rememberedStart (k .side)) (laid (high (length s) ∷ low (length s) ∷ []) (rememberedPart (k .side)) block)
+  unfolding rememberedAt
+  step-remembers ob z f =
+      let x = kept z f in
+      let n : length s % 65536 ≡ length s = omega (arith, x .fits) in
+      x .put ∙ sym (remembered-block block s (k .side) (x .size) (x .fits) ob) ∙ rw (same-part (k .side) (x .side), n)
+
+  -- and the helpers read the frame
+  pub step-recalls : numberIn answer ≡ 0 → fromIp k ≡ false → (rememberedSize block′ (k .side) ≡ length s) × (take (rememberedSize block′ (k .side)) (drop (rememberedStart (k .side)) block′) ≡ s)
+  step-recalls z f =
+      let x = kept z f in
+      let a : length (take 265 block) ≡ 265 = length-take-le 265 block (omega (arith, x .size)) in
+      let b : length (drop 265 block) ≡ 265 = length-drop 265 block ∙ omega (arith, x .size) in
+      let r = recalls-put (memoryIn block) (k .side) s (x .side) (octets-263 (take 265 block) a) (octets-263 (drop 265 block) b) (x .fits) in
+      let n : length block′ ≡ 530 = ap length (x .put) ∙ block-length (rememberedOn (memoryIn block) (k .side) s) (r .main) (r .sub) in
+      let m : memoryIn block′ ≡ rememberedOn (memoryIn block) (k .side) s = ap memoryIn (x .put) ∙ block-read (rememberedOn (memoryIn block) (k .side) s) (r .main) (r .sub) in
+      let e : take (rememberedSize block′ (k .side)) (drop (rememberedStart (k .side)) block′) ≡ s = remembered-is block′ (k .side) n (x .side) ∙ ap (λ (y : Memory). recalled (sideOf y (k .side))) m ∙ r .frame in
+      let l : length (take (rememberedSize block′ (k .side)) (drop (rememberedStart (k .side)) block′)) ≡ rememberedSize block′ (k .side) =
+      length-take-le (rememberedSize block′ (k .side)) (drop (rememberedStart (k .side)) block′) (rw length-drop (omega (arith, n, remembered-within block′ (k .side) n (x .side)))) in
+      (sym l ∙ ap length e, e)
+
+  -- a refused step leaves block and room; a frame from IP leaves the block
+  pub step-leaves : Octets block → (numberIn answer ≡ 0 → ⊥) → (block′ ≡ block) × (room′ ≡ room)
+  unfolding heardThrough
+  step-leaves ob n = go right refl (heard k s (length room)) refl
+    where
+      go : (b : Bool) → right ≡ b → (h : Heard) → heard k s (length room) ≡ h → (block′ ≡ block) × (room′ ≡ room)
+      go true a (frame m p) e = absurd (n (step-told os w .accepted .1 (λ r z. let y : _≡_ {A = ℕ} 0 1 = cc in absurd (omega arith))))
+      go true a (nothing r) e = (w .memory ∙ rw (a, e) (sym (unchanged-block block (lent a) ob)), w .left ∙ rw (a, e))
+      go false a h e = (w .memory ∙ rw a, w .left ∙ rw a)
+
+  pub step-from-ip : Octets block → fromIp k ≡ true → block′ ≡ block
+  unfolding heardThrough
+  step-from-ip ob f = go right refl (heard k s (length room)) refl
+    where
+      go : (b : Bool) → right ≡ b → (h : Heard) → heard k s (length room) ≡ h → block′ ≡ block
+      go true a (frame m p) e = w .memory ∙ rw (a, e, f) (sym (unchanged-block block (lent a) ob))
+      go true a (nothing r) e = w .memory ∙ rw (a, e) (sym (unchanged-block block (lent a) ob))
+      go false a h e = w .memory ∙ rw a
