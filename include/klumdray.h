@@ -2,7 +2,9 @@
  * Klumdray: the surface of the proved library libklumdray.a, numbers and octets only.
  *
  * Document 01 ("Frame layouts", "Refusal numbers", "The coupler", "Sites and the tracer") says what
- * each call does; each call is proved to do it for every input.
+ * each call does; each call is proved to do it for every input. So is what this file says of the
+ * answers' bits, of the parts of the caller's octets, of the list in a trace's room and of the frame
+ * in a step's memory, as the helpers at its end read them (crates/promises/proofs/Surface.antt).
  *
  * Octets. A slice is a pointer and then a length; a null pointer with length 0 is an empty slice.
  * Otherwise the pointer must have that many octets behind it. All octets stay the caller's: a call
@@ -282,6 +284,11 @@ uint64_t klumdray_trace(uint8_t start, uint8_t kind, uint16_t destination, uint8
 uint32_t klumdray_why(uint8_t start, uint8_t kind, uint16_t destination, uint8_t count,
                       const uint8_t *site, size_t site_length, const uint8_t *project,
                       size_t project_length, const uint8_t *own, size_t own_length, uint8_t line);
+
+/*
+ * The helpers. Of every answer that a call gives they give back just what the call found: no field
+ * overflows or reaches into another.
+ */
 
 /* The number in any answer: 0, or the refusal's. */
 static inline uint8_t klumdray_number(uint64_t answer)

@@ -191,6 +191,49 @@ static void datagram_written(void)
     check("P7's message is written", memcmp(room, P7 + 6, sizeof P7 - 6) == 0);
 }
 
+/* What is left of an answer with one bit, where so many are taken from a bit on. */
+static uint64_t taken(unsigned bit, unsigned from, unsigned width)
+{
+    return bit >= from && bit < from + width ? (uint64_t)1 << (bit - from) : 0;
+}
+
+#define TAKES(helper, from, width)                                                                 \
+    do {                                                                                           \
+        unsigned bit, holds = 1;                                                                   \
+        for (bit = 0; bit < 64; bit++)                                                             \
+            holds &= helper((uint64_t)1 << bit) == taken(bit, from, width);                        \
+        check(#helper " takes " #width " bits from " #from " on", holds);                          \
+    } while (0)
+
+/* Each helper takes the bits that its definition has in crates/klumdray/specs/Decoding.antt: what is
+ * proved there is so proved of these. */
+static void helpers(void)
+{
+    TAKES(klumdray_number, 0, 8);
+    TAKES(klumdray_written, 8, 56);
+    TAKES(klumdray_extended, 8, 1);
+    TAKES(klumdray_first_sending, 9, 1);
+    TAKES(klumdray_priority, 10, 2);
+    TAKES(klumdray_group, 12, 1);
+    TAKES(klumdray_count, 13, 3);
+    TAKES(klumdray_source, 16, 16);
+    TAKES(klumdray_destination, 32, 16);
+    TAKES(klumdray_payload_length, 48, 8);
+    TAKES(klumdray_message, 56, 2);
+    TAKES(klumdray_error_mark, 58, 1);
+    TAKES(klumdray_acknowledgement, 8, 8);
+    TAKES(klumdray_own, 16, 1);
+    TAKES(klumdray_forwarded, 32, 32);
+    TAKES(klumdray_listed, 8, 16);
+    TAKES(klumdray_forwardings, 24, 16);
+    TAKES(klumdray_reason, 8, 8);
+    TAKES(klumdray_stopping_line, 16, 8);
+    TAKES(klumdray_stopping_side, 24, 1);
+    check("an extended payload begins at octet 7", klumdray_tp1_payload_start(1u << 8) == 7);
+    check("a datagram's information begins at octet 8", klumdray_routing_information_start() == 8);
+    check("1 is the octet 11h", klumdray_message_code((uint64_t)KLUMDRAY_REQUEST << 56) == 0x11);
+}
+
 /* A coupler's line, codes, memory and room. */
 struct coupler {
     uint8_t line;
@@ -564,6 +607,7 @@ int main(void)
     datagram();
     message();
     datagram_written();
+    helpers();
     steps_from_ip();
     steps_from_tp1();
     steps_with_odd_memories();

@@ -11,7 +11,7 @@ use lib.Seq.{getD-append-add}
 use borrow.Author.Tests.{ltb-true, ltb-false, eqb-true, eqb-false}
 use Rattle.frame.specs.Order.{Verdict, firstOf, pass, refuse}
 use Rattle.klumdray.proofs.TracerNumbers.{trace-told, trace-counted}
-use Rattle.klumdray.specs.Decoding.{listedLine, numberIn, linesIn, ListedAt, ListIs}
+use Rattle.klumdray.specs.Decoding.{listedLine, numberIn, linesIn, ListedAt, ListReads}
 use Rattle.klumdray.specs.Traces.{TracedThrough}
 use Rattle.octets.specs.Octets.{octetAt}
 use Rattle.octets.specs.Room.{over}
@@ -121,7 +121,7 @@ module _ (f : Crossing → Bool) (s c : ℕ) where
     room-has : (line : ℕ) → line < n → isListed f s c line ≡ true → (place : ℕ) × ((place < count n) × (listedLine (list n ++ behind) place ≡ line))
     room-has line h e = let x = has-place n line h e in (x .0, (x .1 .0, room-line (x .0) (x .1 .0) ∙ x .1 .1))
 
-  list-is : (answer : ℕ) (behind : List ℕ) → linesIn answer ≡ count 256 → ListIs f s c answer (list 256 ++ behind)
+  list-is : (answer : ℕ) (behind : List ℕ) → linesIn answer ≡ count 256 → ListReads f s c answer (list 256 ++ behind)
   list-is answer behind l = record {
     places = λ place h. room-at 256 behind place (rw l at h);
     rising = λ place later h k. room-rises 256 behind place later h (rw l at k);
@@ -129,11 +129,11 @@ module _ (f : Crossing → Bool) (s c : ℕ) where
   }
 
 module _ (st : Stores) (site : List ℕ) (q : Query) {room : List ℕ} {answer : ℕ} {room′ : List ℕ} (w : TracedThrough st site q room answer room′) where
-  pub trace-list : numberIn answer ≡ 0 → ListIs (crossingPasses st site q) (q .start) (q .count) answer room′
+  pub trace-list : numberIn answer ≡ 0 → ListReads (crossingPasses st site q) (q .start) (q .count) answer room′
   unfolding listed linesListed
   trace-list z = go (firstOf (traceTests st site q (length room))) refl
     where
-      go : (v : Verdict) → firstOf (traceTests st site q (length room)) ≡ v → ListIs (crossingPasses st site q) (q .start) (q .count) answer room′
+      go : (v : Verdict) → firstOf (traceTests st site q (length room)) ≡ v → ListReads (crossingPasses st site q) (q .start) (q .count) answer room′
       go pass e =
           let r : room′ ≡ over (listed st site q) room = w .left ∙ ap (λ (v : Verdict). over (listBy st site q v) room) e in
           rw r (list-is (crossingPasses st site q) (q .start) (q .count) answer (drop (length (listed st site q)) room) (trace-counted st site q w e .0))

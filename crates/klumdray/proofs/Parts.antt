@@ -15,9 +15,9 @@ use Rattle.cemi.specs.declared.Codes.the-variants.{All, IndicationOnly}
 use Rattle.cemi.specs.declared.Message.{Message}
 use Rattle.frame.proofs.Valid.{ranges-of}
 use Rattle.frame.specs.Answers.{Numbered, meaningValues}
-use Rattle.klumdray.proofs.ReaderNumbers.{tp1-told, tp1-length, cemi-told, cemi-length, routing-told, routing-length}
+use Rattle.klumdray.proofs.ReaderNumbers.{tp1-tells, cemi-tells, routing-tells}
 use Rattle.klumdray.proofs.Telling.{accepted-values}
-use Rattle.klumdray.specs.Decoding.{numberIn, extendedIn, payloadLengthIn, meaningValuesIn, tp1PayloadStart, messagePayloadStart, cemiInformationStart, cemiInformationLength, routingInformationStart, routingInformationLength, Lies, MessageParts}
+use Rattle.klumdray.specs.Decoding.{numberIn, extendedIn, payloadLengthIn, meaningValuesIn, tp1PayloadStart, messagePayloadStart, cemiInformationStart, cemiInformationLength, routingInformationStart, routingInformationLength, LiesAt, MessageParts}
 use Rattle.klumdray.specs.Numbers.{tp1Answered, cemiAnswered, routingAnswered}
 use Rattle.octets.proofs.Octets.{octets-drop}
 use Rattle.octets.specs.Octets.{Octets, weigh}
@@ -41,53 +41,49 @@ tp1-start true n e = rw e
 tp1-start false n e = rw e
 
 module _ (s : List ℕ) (o : Octets s) where
-  pub tp1-payload : numberIn (tp1Answered s) ≡ 0 → Lies s (tp1PayloadStart (tp1Answered s)) (payloadLengthIn (tp1Answered s)) (payloadAt (readTp1 s) s) (payloadIn (readTp1 s) s)
+  pub tp1-payload : numberIn (tp1Answered s) ≡ 0 → LiesAt s (tp1PayloadStart (tp1Answered s)) (payloadLengthIn (tp1Answered s)) (payloadAt (readTp1 s) s) (payloadIn (readTp1 s) s)
   tp1-payload z = go (readTp1 s) refl
     where
-      go : (a : Tp1Answer) → readTp1 s ≡ a → Lies s (tp1PayloadStart (tp1Answered s)) (payloadLengthIn (tp1Answered s)) (payloadAt (readTp1 s) s) (payloadIn (readTp1 s) s)
+      go : (a : Tp1Answer) → readTp1 s ≡ a → LiesAt s (tp1PayloadStart (tp1Answered s)) (payloadLengthIn (tp1Answered s)) (payloadAt (readTp1 s) s) (payloadIn (readTp1 s) s)
       go (Frame m) e =
           let H : ℕ = headOf (m .extended) in
           let f = read-laid s m o e in
           let p : List ℕ = payloadIn (Frame m) s in
           let n : length s ≡ H + length p + 1 = ap length (f .layout) ∙ length-octets m p in
-          let v : meaningValuesIn (tp1Answered s) ≡ meaningValues m = sym (accepted-values (tp1Answered s) (meaningValuesIn (tp1Answered s)) z) ∙ ap (λ (i : Numbered). i .values) (tp1-told s o .decoded ∙ ap tp1Numbered e) in
+          let v : meaningValuesIn (tp1Answered s) ≡ meaningValues m = sym (accepted-values (tp1Answered s) (meaningValuesIn (tp1Answered s)) z) ∙ ap (λ (i : Numbered). i .values) (tp1-tells s o .told .decoded ∙ ap tp1Numbered e) in
           let x : extendedIn (tp1Answered s) ≡ weigh (m .extended) 1 = ap (λ (l : List ℕ). getD l 0 0) v in
-          let l : payloadLengthIn (tp1Answered s) ≡ length p = tp1-length s o ∙ ap (λ (a : Tp1Answer). length (payloadIn a s)) e in
+          let l : payloadLengthIn (tp1Answered s) ≡ length p = tp1-tells s o .size ∙ ap (λ (a : Tp1Answer). length (payloadIn a s)) e in
           let k : length s - 1 - H ≡ length p = omega arith in
           rw (tp1-start (m .extended) (tp1Answered s) x, l, e) (record {
             within = omega arith;
             at = rw (lt-ltb H (length s) (omega arith));
             holds = ap (λ (i : ℕ). take i (drop H s)) (sym k);
           })
-      go (Refused r) e = absurd (tp1-told s o .accepted .0 z r e)
+      go (Refused r) e = absurd (tp1-tells s o .told .accepted .0 z r e)
 
 -- cEMI: the payload is what follows the a octets and the nine others, to the end
 
 module _ (codes : Codes) (t : List ℕ) (x : Message) (o : Octets t) (e : readCemi codes t ≡ Message-is x) where
-  a : ℕ
+  abbrev a : ℕ
   a = informationSize t
 
-  p : List ℕ
-  p = cemiPayload (Message-is x) t
+  abbrev payload : List ℕ
+  payload = cemiPayload (Message-is x) t
 
-  size : 9 + a + length p ≡ length t
-  unfolding a p
-  size = omega (arith, length-drop (9 + informationSize t) t, ranges-of (x .meaning) (length (cemiPayload (Message-is x) t)) (cemi-laid codes t x o e .valid .valid .ranges) .some)
+  some : 1 ≤ length payload
+  some = ranges-of (x .meaning) (length payload) (cemi-laid codes t x o e .valid .valid .ranges) .some
 
-  some : 1 ≤ length p
-  unfolding p
-  some = ranges-of (x .meaning) (length p) (cemi-laid codes t x o e .valid .valid .ranges) .some
+  size : 9 + a + length payload ≡ length t
+  size = omega (arith, length-drop (9 + a) t, some)
 
-  payload-lies : (start k : ℕ) → start ≡ 9 + a → k ≡ length p → Lies t start k (cemiPayloadAt (Message-is x) t) p
-  unfolding a p
+  payload-lies : (start k : ℕ) → start ≡ 9 + a → k ≡ length payload → LiesAt t start k (cemiPayloadAt (Message-is x) t) payload
   payload-lies start k es ek = rw (es, ek) (record {
     within = omega (arith, size);
     at = rw (lt-ltb (9 + a) (length t) (omega (arith, size, some)));
-    holds = take-all (length p) p (omega arith);
+    holds = take-all (length payload) payload (omega arith);
   })
 
-  information-lies : (k : ℕ) → k ≡ a → Lies t 2 k (informationAt (Message-is x) t) (informationIn (Message-is x) t)
-  unfolding a
+  information-lies : (k : ℕ) → k ≡ a → LiesAt t 2 k (informationAt (Message-is x) t) (informationIn (Message-is x) t)
   information-lies k ek = rw (ek, le-leb (2 + a) (length t) (omega (arith, size))) (record {
     within = omega (arith, size);
     at = refl;
@@ -97,13 +93,12 @@ module _ (codes : Codes) (t : List ℕ) (x : Message) (o : Octets t) (e : readCe
 module _ (s : List ℕ) (o : Octets s) where
   pub cemi-parts : numberIn (cemiAnswered s) ≡ 0
       → MessageParts s (cemiAnswered s) cemiInformationStart (cemiInformationLength (cemiAnswered s) (length s)) (informationAt (readCemi All s) s) (informationIn (readCemi All s) s) (cemiPayloadAt (readCemi All s) s) (cemiPayload (readCemi All s) s)
-  unfolding a p
   cemi-parts z = go (readCemi All s) refl
     where
       go : (c : CemiAnswer) → readCemi All s ≡ c
           → MessageParts s (cemiAnswered s) cemiInformationStart (cemiInformationLength (cemiAnswered s) (length s)) (informationAt c s) (informationIn c s) (cemiPayloadAt c s) (cemiPayload c s)
       go (Message-is x) e =
-          let k : payloadLengthIn (cemiAnswered s) ≡ length (cemiPayload (Message-is x) s) = cemi-length s o ∙ ap (λ (c : CemiAnswer). length (cemiPayload c s)) e in
+          let k : payloadLengthIn (cemiAnswered s) ≡ length (cemiPayload (Message-is x) s) = cemi-tells s o .size ∙ ap (λ (c : CemiAnswer). length (cemiPayload c s)) e in
           let n : 9 + informationSize s + length (cemiPayload (Message-is x) s) ≡ length s = size All s x o e in
           record {
             information = information-lies All s x o e (cemiInformationLength (cemiAnswered s) (length s)) (omega arith);
@@ -111,10 +106,10 @@ module _ (s : List ℕ) (o : Octets s) where
             between = omega arith;
             end = omega arith;
           }
-      go (Message-not r) e = absurd (cemi-told s o .accepted .0 z r e)
+      go (Message-not r) e = absurd (cemi-tells s o .told .accepted .0 z r e)
 
   -- a datagram's message starts behind its six octets
-  behind : (start size place : ℕ) (part : List ℕ) → 6 ≤ length s → Lies (drop 6 s) start size place part → Lies s (6 + start) size (6 + place) part
+  behind : (start size place : ℕ) (part : List ℕ) → 6 ≤ length s → LiesAt (drop 6 s) start size place part → LiesAt s (6 + start) size (6 + place) part
   behind start size place part h x = record {
     within = omega (arith, x .within, length-drop 6 s);
     at = ap (λ (i : ℕ). 6 + i) (x .at);
@@ -123,7 +118,6 @@ module _ (s : List ℕ) (o : Octets s) where
 
   pub routing-parts : numberIn (routingAnswered s) ≡ 0
       → MessageParts s (routingAnswered s) routingInformationStart (routingInformationLength (routingAnswered s) (length s)) (routedInformationAt (readRouting s) s) (routedInformation (readRouting s) s) (routedPayloadAt (readRouting s) s) (routedPayload (readRouting s) s)
-  unfolding a p
   routing-parts z = go (readRouting s) refl
     where
       go : (c : CemiAnswer) → readRouting s ≡ c
@@ -133,7 +127,7 @@ module _ (s : List ℕ) (o : Octets s) where
           let q : List ℕ = cemiPayload (Message-is x) t in
           let f = read-datagram s x o e .1 in
           let ot : Octets t = octets-drop 6 s o in
-          let k : payloadLengthIn (routingAnswered s) ≡ length q = routing-length s o ∙ ap (λ (c : CemiAnswer). length (routedPayload c s)) e in
+          let k : payloadLengthIn (routingAnswered s) ≡ length q = routing-tells s o .size ∙ ap (λ (c : CemiAnswer). length (routedPayload c s)) e in
           let n : 9 + informationSize t + length q ≡ length t = size IndicationOnly t x ot f in
           let m : length t ≡ length s - 6 = length-drop 6 s in
           let h : 6 ≤ length s = omega arith in
@@ -144,4 +138,4 @@ module _ (s : List ℕ) (o : Octets s) where
             between = omega arith;
             end = omega arith;
           })
-      go (Message-not r) e = absurd (routing-told s o .accepted .0 z r e)
+      go (Message-not r) e = absurd (routing-tells s o .told .accepted .0 z r e)

@@ -3,7 +3,7 @@
 use Prim.Native.Nat.{ℕ, _^_, _≤_, _<_}
 use mathlib.Core.Bool.{Bool, true, false, cond, _||_}
 use mathlib.Core.List.{List, [], _∷_}
-use mathlib.Core.Path.{_≡_, refl, sym}
+use mathlib.Core.Path.{_∙_, _≡_, refl, sym}
 use native.Mathlib.Omega.{arith}
 use lib.Dec.{eqb}
 use lib.ListN.{length, drop, getD}
@@ -25,8 +25,8 @@ use Rattle.frame.specs.declared.Meaning.{Meaning}
 use Rattle.frame.specs.declared.Refusal.{Refusal}
 use Rattle.klumdray.proofs.Bits.{bit-fits, weighs, Field, _holding_, packed, Fit, widthAt, valueAt, bitAt, read-back, below}
 use Rattle.klumdray.proofs.Surface.{code-most}
-use Rattle.klumdray.proofs.Telling.{number-most, number-alone, tells-refused, tells-accepted}
-use Rattle.klumdray.specs.Decoding.{bits, numberIn, meaningValuesIn, payloadLengthIn, codeNumberIn, messageCodeIn, errorMarkIn, tp1From, cemiFrom, Tells}
+use Rattle.klumdray.proofs.Telling.{number-most, number-some, number-alone, tells-refused, tells-accepted}
+use Rattle.klumdray.specs.Decoding.{bits, numberIn, meaningValuesIn, payloadLengthIn, codeNumberIn, messageCodeIn, errorMarkIn, tp1From, cemiFrom, TellsReading}
 use Rattle.klumdray.specs.Numbers.{flagsOf, meaningNumber, tp1Number, codeNumber, messageNumber, cemiNumber, tp1Answered, cemiAnswered, routingAnswered}
 use Rattle.octets.proofs.Octets.{octets-drop}
 use Rattle.octets.specs.Octets.{Octets, weigh}
@@ -61,8 +61,8 @@ record Reads (m : Meaning) (k n : ℕ) : Type 0 where
   payload : payloadLengthIn n ≡ k
 
 module _ (m : Meaning) (p : List ℕ) (v : Valid m p) where
-  h : Ranges m (length p)
-  h = ranges-of m (length p) (v .ranges)
+  ranges : Ranges m (length p)
+  ranges = ranges-of m (length p) (v .ranges)
 
   most : length p ≤ 255
   most = most-payload m (length p) (v .ranges)
@@ -70,7 +70,7 @@ module _ (m : Meaning) (p : List ℕ) (v : Valid m p) where
   fields-fit : (rest : List Field) → Fit rest → Fit (readerFields m (length p) rest)
   unfolding readerFields
   fields-fit rest f =
-      (omega arith, (bit-fits (m .extended), (bit-fits (m .first), (h .priority, (bit-fits (m .group), (h .count, (v .source, (v .destination, (omega (arith, most), f)))))))))
+      (omega arith, (bit-fits (m .extended), (bit-fits (m .first), (ranges .priority, (bit-fits (m .group), (ranges .count, (v .source, (v .destination, (omega (arith, most), f)))))))))
 
   -- whatever lies above the payload's length
   reads : (rest : List Field) (n : ℕ) → Fit rest → n ≡ packed (readerFields m (length p) rest) → Reads m (length p) n
@@ -86,7 +86,7 @@ module _ (m : Meaning) (p : List ℕ) (v : Valid m p) where
 
   meaning-packed : meaningNumber m (length p) ≡ packed (readerFields m (length p) [])
   unfolding meaningNumber flagsOf readerFields
-  meaning-packed = omega (arith, h .priority, h .count, most, weighs (m .first) 2, weighs (m .group) 16)
+  meaning-packed = omega (arith, ranges .priority, ranges .count, most, weighs (m .first) 2, weighs (m .group) 16)
 
   meaning-fits : meaningNumber m (length p) < 2 ^ 56
   unfolding readerFields
@@ -102,23 +102,23 @@ tp1-apart : (q r : Refusal) → _≡_ {A = Tp1Answer} (Refused q) (Refused r) �
 tp1-apart q r e = cc
 
 tp1-answer : (a : Tp1Answer) (p : List ℕ) → ((m : Meaning) → a ≡ Frame m → Valid m p) → ((r : Refusal) → a ≡ Refused r → p ≡ [])
-    → Tells 56 tp1From (tp1Number a (length p)) (tp1Numbered a) (λ r. a ≡ Refused r) × (payloadLengthIn (tp1Number a (length p)) ≡ length p)
+    → TellsReading 56 tp1From (tp1Number a (length p)) (tp1Numbered a) (λ r. a ≡ Refused r) p
 tp1-answer (Frame m) p v none =
     let x = meaning-reads m p (v m refl) in
-    (tells-accepted (x .number) (tp1-refused m) (meaning-fits m p (v m refl)) (rw (x .number, x .values)), x .payload)
-tp1-answer (Refused q) p v none =
-    (tells-refused q refl refl (tp1-apart q) (omega arith) (rw (number-alone q, refused-number q)), rw (none q refl) (omega (arith, number-most q)))
+    record {
+      told = tells-accepted (x .number) (tp1-refused m) (meaning-fits m p (v m refl)) (rw (x .number, x .values));
+      size = x .payload;
+      some = λ z. rw (x .payload) (ranges m p (v m refl) .some);
+    }
+tp1-answer (Refused q) p v none = record {
+  told = tells-refused q refl refl (tp1-apart q) (omega arith) (rw (number-alone q, refused-number q));
+  size = rw (none q refl) (omega (arith, number-most q));
+  some = λ z. absurd (number-some q (sym (number-alone q) ∙ z));
+}
 
--- what the helpers find in the number of an accepted frame, and what that answer is
 module _ (s : List ℕ) (o : Octets s) where
-  tp1-both : Tells 56 tp1From (tp1Answered s) (tp1Numbered (readTp1 s)) (λ r. readTp1 s ≡ Refused r) × (payloadLengthIn (tp1Answered s) ≡ length (payloadIn (readTp1 s) s))
-  tp1-both = tp1-answer (readTp1 s) (payloadIn (readTp1 s) s) (λ m e. rw e (tp1-laid s m o e .valid)) (λ r e. rw e)
-
-  pub tp1-told : Tells 56 tp1From (tp1Answered s) (tp1Numbered (readTp1 s)) (λ r. readTp1 s ≡ Refused r)
-  tp1-told = tp1-both .0
-
-  pub tp1-length : payloadLengthIn (tp1Answered s) ≡ length (payloadIn (readTp1 s) s)
-  tp1-length = tp1-both .1
+  pub tp1-tells : TellsReading 56 tp1From (tp1Answered s) (tp1Numbered (readTp1 s)) (λ r. readTp1 s ≡ Refused r) (payloadIn (readTp1 s) s)
+  tp1-tells = tp1-answer (readTp1 s) (payloadIn (readTp1 s) s) (λ m e. rw e (tp1-laid s m o e .valid)) (λ r e. rw e)
 
 -- for cEMI also message code and error mark
 
@@ -177,29 +177,25 @@ cemi-apart : (q r : Refusal) → _≡_ {A = CemiAnswer} (Message-not q) (Message
 cemi-apart q r e = cc
 
 cemi-answer : (codes : Codes) (a : CemiAnswer) (p : List ℕ) → ((x : Message) → a ≡ Message-is x → ValidMessage codes x p) → ((r : Refusal) → a ≡ Message-not r → p ≡ [])
-    → Tells 59 cemiFrom (cemiNumber a (length p)) (cemiNumbered a) (λ r. a ≡ Message-not r) × (payloadLengthIn (cemiNumber a (length p)) ≡ length p)
+    → TellsReading 59 cemiFrom (cemiNumber a (length p)) (cemiNumbered a) (λ r. a ≡ Message-not r) p
 cemi-answer codes (Message-is x) p v none =
-    let w = message-reads codes x p (v x refl) in
-    (tells-accepted (w .number) (cemi-refused x) (message-fits codes x p (v x refl)) (rw (w .number, code-read codes x p (v x refl), mark-read codes x p (v x refl), w .values)), w .payload)
-cemi-answer codes (Message-not q) p v none =
-    (tells-refused q refl refl (cemi-apart q) (omega arith) (rw (number-alone q, refused-number q)), rw (none q refl) (omega (arith, number-most q)))
+    let ok = v x refl in
+    let w = message-reads codes x p ok in
+    record {
+      told = tells-accepted (w .number) (cemi-refused x) (message-fits codes x p ok) (rw (w .number, code-read codes x p ok, mark-read codes x p ok, w .values));
+      size = w .payload;
+      some = λ z. rw (w .payload) (ranges (x .meaning) p (ok .valid) .some);
+    }
+cemi-answer codes (Message-not q) p v none = record {
+  told = tells-refused q refl refl (cemi-apart q) (omega arith) (rw (number-alone q, refused-number q));
+  size = rw (none q refl) (omega (arith, number-most q));
+  some = λ z. absurd (number-some q (sym (number-alone q) ∙ z));
+}
 
 module _ (s : List ℕ) (o : Octets s) where
-  cemi-both : Tells 59 cemiFrom (cemiAnswered s) (cemiNumbered (readCemi All s)) (λ r. readCemi All s ≡ Message-not r) × (payloadLengthIn (cemiAnswered s) ≡ length (cemiPayload (readCemi All s) s))
-  cemi-both = cemi-answer All (readCemi All s) (cemiPayload (readCemi All s) s) (λ x e. rw e (cemi-laid All s x o e .valid)) (λ r e. rw e)
+  pub cemi-tells : TellsReading 59 cemiFrom (cemiAnswered s) (cemiNumbered (readCemi All s)) (λ r. readCemi All s ≡ Message-not r) (cemiPayload (readCemi All s) s)
+  cemi-tells = cemi-answer All (readCemi All s) (cemiPayload (readCemi All s) s) (λ x e. rw e (cemi-laid All s x o e .valid)) (λ r e. rw e)
 
-  pub cemi-told : Tells 59 cemiFrom (cemiAnswered s) (cemiNumbered (readCemi All s)) (λ r. readCemi All s ≡ Message-not r)
-  cemi-told = cemi-both .0
-
-  pub cemi-length : payloadLengthIn (cemiAnswered s) ≡ length (cemiPayload (readCemi All s) s)
-  cemi-length = cemi-both .1
-
-  routing-both : Tells 59 cemiFrom (routingAnswered s) (cemiNumbered (readRouting s)) (λ r. readRouting s ≡ Message-not r) × (payloadLengthIn (routingAnswered s) ≡ length (routedPayload (readRouting s) s))
-  routing-both =
+  pub routing-tells : TellsReading 59 cemiFrom (routingAnswered s) (cemiNumbered (readRouting s)) (λ r. readRouting s ≡ Message-not r) (routedPayload (readRouting s) s)
+  routing-tells =
       cemi-answer IndicationOnly (readRouting s) (routedPayload (readRouting s) s) (λ x e. rw e (cemi-laid IndicationOnly (drop 6 s) x (octets-drop 6 s o) (read-datagram s x o e .1) .valid)) (λ r e. rw e)
-
-  pub routing-told : Tells 59 cemiFrom (routingAnswered s) (cemiNumbered (readRouting s)) (λ r. readRouting s ≡ Message-not r)
-  routing-told = routing-both .0
-
-  pub routing-length : payloadLengthIn (routingAnswered s) ≡ length (routedPayload (readRouting s) s)
-  routing-length = routing-both .1

@@ -31,7 +31,7 @@ number-most WrongRecord = omega arith
 number-most LineTwice = omega arith
 number-most NoTable = omega arith
 
-number-some : (r : Refusal) → number r ≡ 0 → ⊥
+pub number-some : (r : Refusal) → number r ≡ 0 → ⊥
 number-some r = eqb-false (number r) 0 (refused-number r)
 
 pub number-alone : (r : Refusal) → numberIn (number r) ≡ number r
@@ -48,6 +48,7 @@ module _ {width : ℕ} {from : ℕ → Numbered} {answer : ℕ} {inner : Numbere
     decoded = ap from e ∙ d;
     refused = λ r. ((λ f. subst Refusing (number-apart q r (sym e ∙ f)) h), (λ f. e ∙ ap number (one r f)));
     accepted = ((λ z. absurd (number-some q (sym (number-alone q) ∙ ap numberIn (sym e) ∙ z))), (λ n. absurd (n q h)));
+    alone = λ n. e ∙ sym (number-alone q) ∙ ap numberIn (sym e);
   }
 
   pub tells-accepted : numberIn answer ≡ 0 → ((r : Refusal) → Refusing r → ⊥) → answer < 2 ^ width → from answer ≡ inner → Tells width from answer inner Refusing
@@ -56,6 +57,7 @@ module _ {width : ℕ} {from : ℕ → Numbered} {answer : ℕ} {inner : Numbere
     decoded = d;
     refused = λ r. ((λ e. absurd (number-some r (sym (number-alone r) ∙ ap numberIn (sym e) ∙ z))), (λ f. absurd (none r f)));
     accepted = ((λ e. none), (λ n. z));
+    alone = λ n. absurd (n z);
   }
 
 -- two different answers never give the same number

@@ -160,7 +160,7 @@ abbrev pub routingInformationLength : ℕ → ℕ → ℕ
 routingInformationLength n size = size - payloadLengthIn n - 15
 
 -- a part by where it starts and its size: it lies within the octets, at the very place where the inner call's part lies, and holds the same
-pub record Lies (s : List ℕ) (start size place : ℕ) (part : List ℕ) : Type 0 where
+pub record LiesAt (s : List ℕ) (start size place : ℕ) (part : List ℕ) : Type 0 where
   pub within : start + size ≤ length s
   pub at : start ≡ place
   pub holds : take size (drop start s) ≡ part
@@ -168,8 +168,8 @@ pub record Lies (s : List ℕ) (start size place : ℕ) (part : List ℕ) : Type
 -- the parts of an accepted message or datagram: additional information, Ctrl1 to LG, and the payload to the end. (So no difference in the
 -- formulas goes below 0.)
 pub record MessageParts (s : List ℕ) (answer start size : ℕ) (informationPlace : ℕ) (informationPart : List ℕ) (payloadPlace : ℕ) (payloadPart : List ℕ) : Type 0 where
-  pub information : Lies s start size informationPlace informationPart
-  pub payload : Lies s (messagePayloadStart answer (length s)) (payloadLengthIn answer) payloadPlace payloadPart
+  pub information : LiesAt s start size informationPlace informationPart
+  pub payload : LiesAt s (messagePayloadStart answer (length s)) (payloadLengthIn answer) payloadPlace payloadPart
   pub between : start + size + 7 ≡ messagePayloadStart answer (length s)
   pub end : messagePayloadStart answer (length s) + payloadLengthIn answer ≡ length s
 
@@ -201,15 +201,25 @@ pub record ListedAt (passes : Crossing → Bool) (start count : ℕ) (room : Lis
   pub crossed : listedCrossed room place ≡ distance start (listedLine room place)
 
 -- the list as the helpers read it off a trace's answer and room: each place has a listed line, the lines rise, and every listed line has a place
-pub record ListIs (passes : Crossing → Bool) (start count : ℕ) (answer : ℕ) (room : List ℕ) : Type 0 where
+pub record ListReads (passes : Crossing → Bool) (start count : ℕ) (answer : ℕ) (room : List ℕ) : Type 0 where
   pub places : (place : ℕ) → place < linesIn answer → ListedAt passes start count room place
   pub rising : (place later : ℕ) → place < later → later < linesIn answer → listedLine room place < listedLine room later
   pub each : (line : ℕ) → line < 256 → isListed passes start count line ≡ true → (place : ℕ) × ((place < linesIn answer) × (listedLine room place ≡ line))
 
--- what an answer says: it has no bit above its width; taken apart it is the inner call's answer; it is a refusal's number, so that "every bit
--- above 7 is 0", exactly if the inner call refuses by it; and bits 0 to 7 are 0 exactly if it refuses nothing
+-- what an answer says
 pub record Tells (width : ℕ) (from : ℕ → Numbered) (answer : ℕ) (inner : Numbered) (Refused : Refusal → Type 0) : Type 0 where
+  -- it has no bit above its width
   pub fits : answer < 2 ^ width
+  -- taken apart it is the inner call's answer
   pub decoded : from answer ≡ inner
-  pub refused : (r : Refusal) → answer ≡ number r ↔ Refused r
+  -- bits 0 to 7 are 0 exactly if the inner call refuses nothing; otherwise "every bit above 7 is 0"
   pub accepted : numberIn answer ≡ 0 ↔ ((r : Refusal) → Refused r → ⊥)
+  pub alone : (numberIn answer ≡ 0 → ⊥) → answer ≡ numberIn answer
+  -- and then it is the number of the very refusal that the inner call gives
+  pub refused : (r : Refusal) → answer ≡ number r ↔ Refused r
+
+-- a reader's answer: also "payload length, TPCI onward, 1 to 255", which is that of the payload handed out
+pub record TellsReading (width : ℕ) (from : ℕ → Numbered) (answer : ℕ) (inner : Numbered) (Refused : Refusal → Type 0) (payload : List ℕ) : Type 0 where
+  pub told : Tells width from answer inner Refused
+  pub size : payloadLengthIn answer ≡ length payload
+  pub some : numberIn answer ≡ 0 → 1 ≤ payloadLengthIn answer
