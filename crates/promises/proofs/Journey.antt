@@ -1,6 +1,6 @@
 -- Demand 3, and what a planner really wants to know: the list is what the couplers do, whatever each of them remembers, the backbone being
 -- TP1 or IP. A first sending is put on the starting line of a well-formed site at work, and just that telegram is traced.
-use Prim.Native.Nat.{ℕ, zero, suc, _-_, _≤_, _<_}
+use Prim.Native.Nat.{ℕ, zero, suc, _≤_, _<_}
 use mathlib.Core.Bool.{Bool, true, false, cond, _&&_}
 use mathlib.Core.List.{List, [], _∷_}
 use mathlib.Core.Logic.{_↔_}
@@ -20,7 +20,7 @@ use Rattle.octets.specs.Room.{over}
 use Rattle.site.specs.WellFormed.{siteTests}
 use Rattle.tracer.proofs.Handing.{backbone-ip}
 use Rattle.tracer.proofs.Journey.{list-is-journey, arrives-listed, arrives-below, sends-so-many, sends-once as sends-alike}
-use Rattle.tracer.proofs.ListLaws.{trace-less-one}
+use Rattle.tracer.proofs.ListLaws.{trace-and-one}
 use Rattle.tracer.proofs.Paths.{by-cases}
 use Rattle.tracer.proofs.SoMany.{so-many-one}
 use Rattle.tracer.proofs.Standing.{ListedWith, stands-iff, stands-once}
@@ -93,7 +93,7 @@ module _ (w : AtWork) (o : Octets (w .site)) (ok : NoneOf (siteTests (w .stores)
 
   pub stands-in-one-place : (line : ℕ) {count₁ count₂ crossed₁ crossed₂ : ℕ} (a : StandsIn room′ (answer .lines) line count₁ crossed₁) (b : StandsIn room′ (answer .lines) line count₂ crossed₂)
       → a .place ≡ b .place
-  stands-in-one-place line {count₁} {count₂} {crossed₁} {crossed₂} = rw (room-is, lines-are) (stands-once (w .stores) (w .site) (askedOf start m) room line)
+  stands-in-one-place line = rw (room-is, lines-are) (stands-once (w .stores) (w .site) (askedOf start m) room line)
 
   pub arrives-once : (line : ℕ) {octets₁ octets₂ : List ℕ} {way₁ way₂ : List Crossing} → Arrives w start (formOn w start m p) line octets₁ way₁ → Arrives w start (formOn w start m p) line octets₂ way₂
       → (octets₁ ≡ octets₂) × (way₁ ≡ way₂)
@@ -113,8 +113,8 @@ module _ (w : AtWork) (o : Octets (w .site)) (ok : NoneOf (siteTests (w .stores)
   sends-once = sends-alike w fine start m p v new
 
   -- .. "which is the number of listed lines less one"
-  pub forwardings-less-one : answer .forwardings ≡ answer .lines - 1
-  forwardings-less-one = forwardings-are ∙ trace-less-one (w .stores) (w .site) (askedOf start m) small ∙ ap (λ (k : ℕ). k - 1) (sym lines-are)
+  pub forwardings-less-one : answer .lines ≡ suc (answer .forwardings)
+  forwardings-less-one = lines-are ∙ trace-and-one (w .stores) (w .site) (askedOf start m) small ∙ ap suc (sym forwardings-are)
 
 -- every query with kind and count in range is asked of such a telegram
 pub record Telegram (q : Query) : Type 0 where

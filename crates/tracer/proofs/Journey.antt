@@ -24,10 +24,10 @@ use Rattle.site.specs.WellFormed.{siteTests}
 use Rattle.tracer.proofs.CountLaws.{arrival-none, arrival-below, hopped-more}
 use Rattle.tracer.proofs.Crossings.{goes-on, last-of, distance-more, listed-more, forwarding-is}
 use Rattle.tracer.proofs.Fitted.{fitted-set, fitted-line, fitted-below}
-use Rattle.tracer.proofs.SoMany.{Counted, so-many}
 use Rattle.tracer.proofs.Handing.{one-if, form-on-read, hands-line, hands-side, hands-passes, passes-hands}
 use Rattle.tracer.proofs.ListLaws.{start-listed}
 use Rattle.tracer.proofs.Paths.{by-cases, main-below, path-same, distance-same, distance-zero}
+use Rattle.tracer.proofs.SoMany.{Counted, so-many}
 use Rattle.tracer.proofs.Standing.{ListedWith}
 use Rattle.tracer.specs.Journey.{AtWork, ownCoupler, isIp, formOn, Hands, Arrives, Sends, SoMany, ArrivesWith, askedOf, withCount, put-there, handed-on}
 use Rattle.tracer.specs.Lines.{mainSide, Crossing, fromLine, toLine, cameOver, path, distance}

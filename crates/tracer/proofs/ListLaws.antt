@@ -16,8 +16,8 @@ use Rattle.tracer.proofs.Forwardings.{forwardings-listed}
 use Rattle.tracer.proofs.Paths.{by-cases, path-same, distance-same, distance-zero}
 use Rattle.tracer.proofs.ReachingLaws.{and-yes, and-false, count-most}
 use Rattle.tracer.specs.Lines.{Crossing, path, distance}
-use Rattle.tracer.specs.Reaching.{isForwardedTo}
 use Rattle.tracer.specs.Listing.{Query, crossingPasses, isListed, onArrival, entry, eachBelow, countBelow, listed, linesListed, forwardingsBy, forwardings}
+use Rattle.tracer.specs.Reaching.{isForwardedTo}
 
 -- the lines of a list, three octets for each
 abbrev pub linesOf : List ℕ → List ℕ
@@ -109,12 +109,19 @@ module _ (f : Crossing → Bool) (s c : ℕ) where
   less-one : (n : ℕ) → s < n → countBelow (isForwardedTo f s c) n ≡ countBelow (isListed f s c) n - 1
   less-one n h = rw (forwarded-each n, lt-ltb s n h) (omega arith)
 
-  -- so those lines are as many as the forwardings
-  pub forwarded-lines : s < 256 → countBelow (isForwardedTo f s c) 256 ≡ forwardingsBy f s c
-  forwarded-lines h = same (less-one 256 h) (ap (λ (b : Bool). cond b 1 0) start-listed) (forwardings-listed f s c h)
+  -- so there is one line more than forwardings, and those lines are as many
+
+  pub forwardings-and-one : s < 256 → countBelow (isListed f s c) 256 ≡ suc (forwardingsBy f s c)
+  forwardings-and-one h = one (ap (λ (b : Bool). cond b 1 0) start-listed) (forwardings-listed f s c h)
     where
-      same : {a b k l : ℕ} → a ≡ l - 1 → k ≡ 1 → l ≡ k + b → a ≡ b
-      same d e g = omega arith
+      one : {k l n : ℕ} → k ≡ 1 → l ≡ k + n → l ≡ suc n
+      one e g = omega arith
+
+  pub forwarded-lines : s < 256 → countBelow (isForwardedTo f s c) 256 ≡ forwardingsBy f s c
+  forwarded-lines h = same (less-one 256 h) (forwardings-and-one h)
+    where
+      same : {a b l : ℕ} → a ≡ l - 1 → l ≡ suc b → a ≡ b
+      same d e = omega arith
 
   -- the listed lines below a number
   abbrev pub linesBelow : ℕ → List ℕ
@@ -175,6 +182,10 @@ module _ (st : Stores) (site : List ℕ) (q : Query) where
   trace-has = list-has (crossingPasses st site q) (q .start) (q .count)
 
   -- "which is the number of listed lines less one"
-  pub trace-less-one : q .start < 256 → forwardings st site q ≡ linesListed st site q - 1
+
+  pub trace-and-one : q .start < 256 → linesListed st site q ≡ suc (forwardings st site q)
   unfolding forwardings linesListed
-  trace-less-one h = sym (forwarded-lines (crossingPasses st site q) (q .start) (q .count) h) ∙ less-one (crossingPasses st site q) (q .start) (q .count) 256 h
+  trace-and-one = forwardings-and-one (crossingPasses st site q) (q .start) (q .count)
+
+  pub trace-less-one : q .start < 256 → forwardings st site q ≡ linesListed st site q - 1
+  trace-less-one h = omega (arith, trace-and-one h)
