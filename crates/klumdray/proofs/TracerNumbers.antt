@@ -27,13 +27,13 @@ use Rattle.octets.proofs.Below.{and-true}
 use Rattle.octets.specs.Room.{over}
 use Rattle.site.specs.Stores.{Stores}
 use Rattle.site.specs.WellFormed.{isAmong}
-use Rattle.tracer.proofs.Explained.{not-reached}
+use Rattle.tracer.proofs.Explained.{reached-iff, not-reached}
 use Rattle.tracer.proofs.ListLaws.{start-listed, trace-less-one}
 use Rattle.tracer.proofs.Paths.{by-cases}
 use Rattle.tracer.proofs.ReachingLaws.{count-most}
 use Rattle.tracer.specs.Answers.{explanationNumbered}
-use Rattle.tracer.specs.Lines.{Crossing, mainSide, depth, mainSides, mainSidesBy, beforeCommon, down, upOver, downOver, path}
-use Rattle.tracer.specs.Listing.{Query, crossingPasses, isListed, countBelow, linesListed, isForwardedTo, forwardings}
+use Rattle.tracer.specs.Lines.{Crossing, mainSide, depth, mainSides, mainSidesBy, beforeCommon, down, upOver, downOver, path, up}
+use Rattle.tracer.specs.Listing.{Query, crossingPasses, isListed, countBelow, linesListed, isForwarding, forwardings}
 use Rattle.tracer.specs.Tracing.{isQuery, traceTests, tracedBy, listBy}
 use Rattle.tracer.specs.Why.{whyOf, whyTests, answerWhy}
 use Rattle.tracer.specs.declared.Explanation.{Explanation}
@@ -48,14 +48,24 @@ count-some f (suc n) s h e =
     (λ q. let z : f n ≡ true = ap f (sym (eqb-true s n q)) ∙ e in rw z (omega arith))
     (λ q. let d : s ≡ n → ⊥ = eqb-false s n q in omega (arith, count-some f n s (omega (arith, d)) e))
 
+both-most : (f g : ℕ → Bool) → countBelow f 255 + countBelow g 255 ≤ 510
+both-most f g = sum-most (countBelow f 255) (countBelow g 255) (count-most f 255) (count-most g 255)
+  where
+    sum-most : (m n : ℕ) → m ≤ 255 → n ≤ 255 → m + n ≤ 510
+    sum-most m n h k = omega arith
+
 module _ (st : Stores) (site : List ℕ) (q : Query) where
   lines-most : linesListed st site q ≤ 256
   unfolding linesListed
   lines-most = count-most (isListed (crossingPasses st site q) (q .start) (q .count)) 256
 
-  forwardings-most : forwardings st site q ≤ 256
+  -- a coupler makes at most one in each direction
+  forwardings-most : forwardings st site q ≤ 510
   unfolding forwardings
-  forwardings-most = count-most (isForwardedTo (crossingPasses st site q) (q .start) (q .count)) 256
+  forwardings-most = both-most (λ n. hands (down (suc n))) (λ n. hands (up (suc n)))
+    where
+      hands : Crossing → Bool
+      hands = isForwarding (crossingPasses st site q) (q .start) (q .count)
 
   lines-some : q .start < 256 → 1 ≤ linesListed st site q
   unfolding linesListed
@@ -64,7 +74,7 @@ module _ (st : Stores) (site : List ℕ) (q : Query) where
 tracedFields : Traced → List Field
 tracedFields t = 8 holding t .number ∷ 16 holding t .lines ∷ 16 holding t .forwardings ∷ []
 
-module _ (t : Traced) (n : t .number ≤ 18) (l : t .lines ≤ 256) (f : t .forwardings ≤ 256) where
+module _ (t : Traced) (n : t .number ≤ 18) (l : t .lines ≤ 256) (f : t .forwardings ≤ 510) where
   traced-fit : Fit (tracedFields t)
   unfolding tracedFields
   traced-fit = (omega arith, (omega arith, (omega arith, tt)))
@@ -202,15 +212,28 @@ record Stops (stop : Stop) : Type 0 where
   coupler : stop .coupler < 256
   direction : stop .direction < 2
 
+reached-apart : {A : Type 0} (stop : Stop) → Reached ≡ NotReached stop → A
+reached-apart stop e = let z : _≡_ {A = ℕ} 0 1 = cc in absurd (omega arith)
+
 stops : (st : Stores) (site : List ℕ) (q : Query) (line : ℕ) (stop : Stop) → q .count ≤ 7 → q .start < 256 → line < 256 → whyOf st site q line ≡ NotReached stop → Stops stop
-stops st site q line stop c h k e =
-    let x = not-reached st site q c line stop e in
-    let w : Small (x .here) = small-here (x .ahead) (x .behind) (x .here) (subst AllSmall (x .place) (path-small (q .start) line h k)) in
-    record {
-      reason = passage-some (stop .reason) (ap doesPass (x .reason) ∙ x .stops);
-      coupler = rw (x .named .0) (w .0);
-      direction = rw (x .named .1) (w .1);
-    }
+stops st site q line stop c h k e = by-cases (isListed (crossingPasses st site q) (q .start) (q .count) line) listed unlisted
+  where
+    listed : isListed (crossingPasses st site q) (q .start) (q .count) line ≡ true → Stops stop
+    listed l = reached-apart stop (sym (reached-iff st site q c line .1 l) ∙ e)
+
+    unlisted : isListed (crossingPasses st site q) (q .start) (q .count) line ≡ false → Stops stop
+    unlisted l =
+        let n = not-reached st site q c line l in
+        let x = n .1 .1 in
+        let same : NotReached stop ≡ NotReached (n .0) = sym e ∙ n .1 .0 in
+        let is : stop ≡ n .0 = cc in
+        let told = is ∙ x .told in
+        let w : Small (x .here) = small-here (x .ahead) (x .behind) (x .here) (subst AllSmall (x .place) (path-small (q .start) line h k)) in
+        record {
+          reason = passage-some (stop .reason) (ap (λ (s : Stop). doesPass (s .reason)) told ∙ x .stops .1 .1);
+          coupler = rw (ap (λ (s : Stop). s .coupler) told) (w .0);
+          direction = rw (ap (λ (s : Stop). s .direction) told) (w .1);
+        }
 
 module _ (stop : Stop) (x : Stops stop) where
   stopFields : List Field
