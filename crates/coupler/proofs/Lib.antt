@@ -3,3 +3,4 @@ mod HearingLaws
 pub mod Refusals
 pub mod Promised
 pub mod PassingLaws
+pub mod Answers

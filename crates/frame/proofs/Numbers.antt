@@ -1,32 +1,42 @@
--- The paper's numbers of the refusals: none is 0, and no two are the same.
-use Prim.Native.Nat.{ℕ}
-use mathlib.Core.Bool.{false, cond}
+-- The paper's numbers of the refusals: 1 to 18, and no two are the same.
+use Prim.Native.Nat.{ℕ, _≤_}
+use mathlib.Core.Bool.{true, false, cond, _&&_}
 use mathlib.Core.Path.{_≡_, refl, sym, ap, _∙_}
-use lib.Dec.{eqb}
+use native.Mathlib.Omega.{arith}
+use lib.Dec.{leb, eqb}
+use borrow.Author.Tests.{leb-true, ne-eqb}
 use Rattle.frame.specs.Refusals.{number}
 use Rattle.frame.specs.declared.Refusal.the-variants.{TooFew, NotData, OtherFormat, Escape, LeftOver, WrongCheck, OtherCode, InformationEscape, LongStandard, OtherHeader, OtherService, OtherLength, SmallRoom, OutOfRange, WrongSetting, WrongRecord, LineTwice, NoTable}
 use Rattle.frame.specs.declared.Refusal.{Refusal}
+use Rattle.octets.proofs.Below.{and-true}
+
+-- the table's numbers are 1 to 18
+is-listed : (r : Refusal) → leb 1 (number r) && leb (number r) 18 ≡ true
+is-listed TooFew = refl
+is-listed NotData = refl
+is-listed OtherFormat = refl
+is-listed Escape = refl
+is-listed LeftOver = refl
+is-listed WrongCheck = refl
+is-listed OtherCode = refl
+is-listed InformationEscape = refl
+is-listed LongStandard = refl
+is-listed OtherHeader = refl
+is-listed OtherService = refl
+is-listed OtherLength = refl
+is-listed SmallRoom = refl
+is-listed OutOfRange = refl
+is-listed WrongSetting = refl
+is-listed WrongRecord = refl
+is-listed LineTwice = refl
+is-listed NoTable = refl
+
+pub number-listed : (r : Refusal) → (1 ≤ number r) × (number r ≤ 18)
+number-listed r = let b = and-true _ _ (is-listed r) in (leb-true 1 (number r) (b .0), leb-true (number r) 18 (b .1))
 
 -- a refusal's number is not 0
 pub refused-number : (r : Refusal) → eqb (number r) 0 ≡ false
-refused-number TooFew = refl
-refused-number NotData = refl
-refused-number OtherFormat = refl
-refused-number Escape = refl
-refused-number LeftOver = refl
-refused-number WrongCheck = refl
-refused-number OtherCode = refl
-refused-number InformationEscape = refl
-refused-number LongStandard = refl
-refused-number OtherHeader = refl
-refused-number OtherService = refl
-refused-number OtherLength = refl
-refused-number SmallRoom = refl
-refused-number OutOfRange = refl
-refused-number WrongSetting = refl
-refused-number WrongRecord = refl
-refused-number LineTwice = refl
-refused-number NoTable = refl
+refused-number r = ne-eqb (number r) 0 (λ e. omega (arith, number-listed r .0))
 
 -- the refusal that has a number
 abbrev numbered : ℕ → Refusal

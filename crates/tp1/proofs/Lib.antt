@@ -2,3 +2,4 @@ pub mod Size
 pub mod LayoutLaws
 pub mod Refusals
 pub mod RoundTrip
+pub mod Answers

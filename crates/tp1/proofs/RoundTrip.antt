@@ -3,7 +3,6 @@
 use Prim.Native.Nat.{ℕ, suc, _+_, _-_, _%_, _≤_, _<_}
 use mathlib.Core.Bool.{Bool, true, false, not}
 use mathlib.Core.List.{List, [], _∷_, _++_, append-assoc}
-use mathlib.Core.Logic.{_↔_}
 use mathlib.Core.Path.{_≡_, refl, sym, ap, _∙_, subst}
 use native.Mathlib.Omega.{arith}
 use lib.Dec.{ltb}
@@ -12,13 +11,10 @@ use lib.Seq.{length-take-le, take-add, take-at, drop-at, getD-at}
 use borrow.Author.Tests.{ltb-false, eqb-true, eqb-false, not-false, le-ltb, eq-eqb, ne-eqb}
 use Rattle.frame.proofs.Fields.{control-back, ctrle-back, control-fields, ctrle-fields, meaning-back, fields-read, fields-back}
 use Rattle.frame.proofs.Valid.{Ranges, ranges-of, ranged}
-use Rattle.frame.proofs.Writing.{written-front}
 use Rattle.frame.specs.Fields.{controlOf, isControl, ctrleOf, meaningOf, fieldsOf, fieldsMeaning}
 use Rattle.frame.specs.Order.{NoneOf}
-use Rattle.frame.specs.Valid.{inRange, Valid}
-use Rattle.frame.specs.Writing.{Wrote}
+use Rattle.frame.specs.Valid.{Valid}
 use Rattle.frame.specs.declared.Meaning.{Meaning}
-use Rattle.frame.specs.declared.Written.the-variants.{Put}
 use Rattle.octets.proofs.Octets.{octets-take, octets-drop}
 use Rattle.octets.proofs.Split.{firsts, last, take-firsts}
 use Rattle.octets.proofs.Word.{word-back, high-word, low-word, word-below}
@@ -250,29 +246,8 @@ read-laid s m o e = go (isExtended s) refl
     go true q = subst (Sound s) (sym (means-extended s q) ∙ a .1) (sound-extended s o (a .0) q)
     go false q = subst (Sound s) (sym (means-standard s q) ∙ a .1) (sound-standard s o (a .0) q)
 
--- octets are accepted exactly if they are a frame
-pub record IsFrame (s : List ℕ) (m : Meaning) : Type 0 where
-  pub payload : List ℕ
-  pub valid : Valid m payload
-  pub layout : s ≡ tp1Octets m payload
-
-pub frame-iff : (s : List ℕ) (m : Meaning) → Octets s → readTp1 s ≡ Frame m ↔ IsFrame s m
-frame-iff s m o = (
-  (λ e. let f = read-laid s m o e in record { payload = payloadIn (Frame m) s; valid = f .valid; layout = f .layout }),
-  (λ f. ap readTp1 (f .layout) ∙ laid-read m (f .payload) (f .valid)),
-)
-
 -- one layout has one meaning and one payload
 pub layout-one : (m n : Meaning) (p q : List ℕ) → Valid m p → Valid n q → tp1Octets m p ≡ tp1Octets n q → (m ≡ n) × (p ≡ q)
 layout-one m n p q v w e =
     let f : Frame m ≡ Frame n = sym (laid-read m p v) ∙ ap readTp1 e ∙ laid-read n q w in
     (cc, sym (laid-payload m p) ∙ ap (payloadIn (Frame m)) e ∙ ap (λ (a : Tp1Answer). payloadIn a (tp1Octets n q)) f ∙ laid-payload n q)
-
--- what the writer puts into a room reads back as what was written
-pub written-read : (m : Meaning) (p room after : List ℕ) (n : ℕ) → Valid m p → Wrote (inRange m (length p)) (tp1Octets m p) room (Put n) after → readTp1 (take n after) ≡ Frame m
-written-read m p room after n v w = ap readTp1 (written-front (inRange m (length p)) (tp1Octets m p) room after n w .1) ∙ laid-read m p v
-
--- a frame that was read and is written again, with the payload that was handed out, stands in the room octet for octet
-pub read-written : (s : List ℕ) (m : Meaning) (room after : List ℕ) (n : ℕ) → Octets s → readTp1 s ≡ Frame m
-    → Wrote (inRange m (length (payloadIn (Frame m) s))) (tp1Octets m (payloadIn (Frame m) s)) room (Put n) after → take n after ≡ s
-read-written s m room after n o e w = written-front _ (tp1Octets m (payloadIn (Frame m) s)) room after n w .1 ∙ sym (read-laid s m o e .layout)

@@ -15,3 +15,4 @@ pub mod Fitted
 pub mod Handing
 pub mod Journey
 pub mod Refusals
+pub mod Answers
