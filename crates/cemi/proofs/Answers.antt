@@ -8,7 +8,6 @@ use Rattle.cemi.specs.declared.CemiAnswer.the-variants.{Frame, Refused}
 use Rattle.cemi.specs.declared.CemiAnswer.{CemiAnswer}
 use Rattle.cemi.specs.declared.Message.{Message}
 use Rattle.frame.proofs.Answers.{Split, Tells, answers, refuses, tells, weigh-apart, meaning-apart}
-use Rattle.frame.specs.declared.Meaning.{Meaning}
 
 -- a message's values tell it from every other
 pub message-apart : (x y : Message) → messageValues x ≡ messageValues y → x ≡ y

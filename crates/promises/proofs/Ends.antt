@@ -1,18 +1,34 @@
 -- How a call ends by its order of refusals: for the statements of demand 1.
+use Prim.Native.Nat.{ℕ}
 use mathlib.Core.List.{List}
-use mathlib.Core.Path.{_≡_, refl, ap}
+use mathlib.Core.Path.{_≡_, refl, sym, ap, _∙_}
 use Rattle.frame.proofs.Order.{passed-iff, refused-iff}
+use Rattle.frame.specs.Answers.{Numbered, accepted, refused}
 use Rattle.frame.specs.Order.{Test, Verdict, firstOf, answerBy, NoneOf, FirstIs, pass, refuse}
 use Rattle.frame.specs.declared.Refusal.{Refusal}
 
 -- an answer where no test of the order is true; otherwise the refusal of the first one that is
-pub data Ends {A : Type 0} (refused : Refusal → A) (answer : A) (ts : List Test) (given : A) : Type 0 where
-  answers : NoneOf ts → given ≡ answer → Ends refused answer ts given
-  refuses : (r : Refusal) → FirstIs ts r → given ≡ refused r → Ends refused answer ts given
+pub data Ends {A : Type 0} (refusal : Refusal → A) (answer : A) (ts : List Test) (given : A) : Type 0 where
+  answers : NoneOf ts → given ≡ answer → Ends refusal answer ts given
+  refuses : (r : Refusal) → FirstIs ts r → given ≡ refusal r → Ends refusal answer ts given
 
-pub ends : {A : Type 0} (refused : Refusal → A) (answer : A) (ts : List Test) → Ends refused answer ts (answerBy refused answer (firstOf ts))
-ends refused answer ts = go (firstOf ts) refl
-  where
-    go : (v : Verdict) → firstOf ts ≡ v → Ends refused answer ts (answerBy refused answer (firstOf ts))
-    go pass e = answers (passed-iff ts .0 e) (ap (answerBy refused answer) e)
-    go (refuse r) e = refuses r (refused-iff ts r .0 e) (ap (answerBy refused answer) e)
+-- the same by numbers: 0 and these values where no test is true; otherwise the number of the first refusal whose test is true, and no values
+abbrev pub EndsNumbered : List ℕ → List Test → Numbered → Type 0
+EndsNumbered values ts given = Ends refused (accepted values) ts given
+
+module _ {A : Type 0} (refusal : Refusal → A) (answer : A) where
+  -- an answer that the verdict of the order chooses
+  pub ends-by : (by : Verdict → A) → by pass ≡ answer → ((r : Refusal) → by (refuse r) ≡ refusal r) → (ts : List Test) → Ends refusal answer ts (by (firstOf ts))
+  ends-by by p q ts = go (firstOf ts) refl
+    where
+      go : (v : Verdict) → firstOf ts ≡ v → Ends refusal answer ts (by (firstOf ts))
+      go pass e = answers (passed-iff ts .0 e) (ap by e ∙ p)
+      go (refuse r) e = refuses r (refused-iff ts r .0 e) (ap by e ∙ q r)
+
+  -- "the one": an order leaves one end
+  pub ends-one : (ts : List Test) (a b : A) → Ends refusal answer ts a → Ends refusal answer ts b → a ≡ b
+  ends-one ts a b x y = is a x ∙ sym (is b y)
+    where
+      is : (c : A) → Ends refusal answer ts c → c ≡ answerBy refusal answer (firstOf ts)
+      is c (answers n e) = e ∙ sym (ap (answerBy refusal answer) (passed-iff ts .1 n))
+      is c (refuses r f e) = e ∙ sym (ap (answerBy refusal answer) (refused-iff ts r .1 f))

@@ -1,9 +1,9 @@
 -- The explanation by its number and values: frame's law, cited. That a line is reached has no values, and a stop has three: so the two are
 -- told apart whatever the reason's number is. And no explanation that is given names a stop for the reason 0, that the telegram passes.
 use Prim.Native.Nat.{ℕ, _≤_}
-use mathlib.Core.Bool.{Bool, true, false, cond}
+use mathlib.Core.Bool.{Bool, true, false}
 use mathlib.Core.List.{List, [], _∷_}
-use mathlib.Core.Path.{_≡_, refl, sym, ap, _∙_}
+use mathlib.Core.Path.{_≡_, refl, ap, _∙_}
 use native.Mathlib.Omega.{arith}
 use lib.Dec.{eqb}
 use lib.ListN.{length, getD}
@@ -21,7 +21,7 @@ use Rattle.site.specs.Stores.{Stores}
 use Rattle.tracer.specs.Answers.{explanationNumbered}
 use Rattle.tracer.specs.Lines.{Crossing, path}
 use Rattle.tracer.specs.Listing.{Query}
-use Rattle.tracer.specs.Why.{goesBy, handedOn, walked, whyBy, whyOf, whyTests, answerWhy}
+use Rattle.tracer.specs.Why.{goesBy, walked, whyBy, whyOf, whyTests, answerWhy}
 use Rattle.tracer.specs.declared.Explanation.the-variants.{Reached, NotReached, Refused}
 use Rattle.tracer.specs.declared.Explanation.{Explanation}
 use Rattle.tracer.specs.declared.Stop.{Stop}
@@ -91,21 +91,22 @@ module _ (st : Stores) (site : List ℕ) (group : Bool) (destination : ℕ) wher
       walked-reasoned (goesBy count x p) xs (goes-reasoned count x p)
   walked-reasoned (Stopped stop) (x ∷ xs) h = walked-reasoned (Stopped stop) xs h
 
-stop-reasoned : (w : Walk) (stop : Stop) → Reasoned w → whyBy w ≡ NotReached stop → doesPass (stop .reason) ≡ false
-stop-reasoned (Going count) stop h e = let z : _≡_ {A = ℕ} 0 1 = cc in absurd (omega arith)
-stop-reasoned (Stopped s) stop h e = let k : s ≡ stop = cc in ap (λ (s : Stop). doesPass (s .reason)) (sym k) ∙ h
+-- the first of three values is a reason's number, 1 to 7
+reason-by : (w : Walk) → Reasoned w → (n coupler direction : ℕ) → explanationNumbered (whyBy w) .values ≡ n ∷ coupler ∷ direction ∷ [] → (1 ≤ n) × (n ≤ 7)
+reason-by (Going count) h n coupler direction e = let z : _≡_ {A = ℕ} 0 3 = ap length e in absurd (omega arith)
+reason-by (Stopped stop) h n coupler direction e =
+    let k : passageNumber (stop .reason) ≡ n = ap (λ (l : List ℕ). getD l 0 0) e in
+    let some : passageNumber (stop .reason) ≡ 0 → ⊥ = eqb-false (passageNumber (stop .reason)) 0 (passage-zero (stop .reason) ∙ h) in
+    let most : passageNumber (stop .reason) ≤ 7 = leb-true (passageNumber (stop .reason)) 7 (passage-most (stop .reason)) in
+    rw (← k) (omega (arith, some), most)
 
--- a stop's reason has one of the numbers 1 to 7
-pub why-reason : (st : Stores) (site : List ℕ) (q : Query) (line : ℕ) (stop : Stop) → answerWhy st site q line ≡ NotReached stop → (1 ≤ passageNumber (stop .reason)) × (passageNumber (stop .reason) ≤ 7)
+pub why-reason : (st : Stores) (site : List ℕ) (q : Query) (line n coupler direction : ℕ) → explanationNumbered (answerWhy st site q line) .values ≡ n ∷ coupler ∷ direction ∷ [] → (1 ≤ n) × (n ≤ 7)
 unfolding answerWhy whyOf
-why-reason st site q line stop e = go (firstOf (whyTests st site q)) e
+why-reason st site q line n coupler direction = go (firstOf (whyTests st site q))
   where
     w : Walk
     w = walked st site (eqb (q .kind) 1) (q .destination) (Going (q .count)) (path (q .start) line)
 
-    go : (v : Verdict) → answerBy Refused (whyBy w) v ≡ NotReached stop → (1 ≤ passageNumber (stop .reason)) × (passageNumber (stop .reason) ≤ 7)
-    go pass e =
-        let s : doesPass (stop .reason) ≡ false = stop-reasoned w stop (walked-reasoned st site (eqb (q .kind) 1) (q .destination) (Going (q .count)) (path (q .start) line) tt) e in
-        let n : passageNumber (stop .reason) ≡ 0 → ⊥ = eqb-false (passageNumber (stop .reason)) 0 (passage-zero (stop .reason) ∙ s) in
-        (omega (arith, n), leb-true (passageNumber (stop .reason)) 7 (passage-most (stop .reason)))
-    go (refuse r) e = let z : _≡_ {A = ℕ} 0 1 = cc in absurd (omega arith)
+    go : (v : Verdict) → explanationNumbered (answerBy Refused (whyBy w) v) .values ≡ n ∷ coupler ∷ direction ∷ [] → (1 ≤ n) × (n ≤ 7)
+    go pass e = reason-by w (walked-reasoned st site (eqb (q .kind) 1) (q .destination) (Going (q .count)) (path (q .start) line) tt) n coupler direction e
+    go (refuse r) e = let z : _≡_ {A = ℕ} 0 3 = ap length e in absurd (omega arith)
