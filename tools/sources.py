@@ -1,5 +1,6 @@
 """What the checks in tools/ read of the crates: functions with their contracts, and wrong programs."""
 
+import functools
 import pathlib
 import re
 from collections import namedtuple
@@ -93,10 +94,12 @@ def sources(crate):
     return {file.stem: file.read_text() for file in (ROOT / "crates" / crate / "src").glob("*.rt")}
 
 
+@functools.cache
 def functions(crate):
     return list(functions_in(crate, sources(crate)))
 
 
+@functools.cache
 def edits(crate=None):
     found = []
     for file in sorted(ROOT.glob(f"crates/{crate or '*'}/must-fail/programs/*.edit")):
@@ -132,8 +135,17 @@ def edited(edit):
     return list(functions_in(edit.crate, edited_sources(edit)))
 
 
+CHANGED = {}
+
+
 def changed(edit):
     """The functions whose code an edit changes; None where it changes a statement of the crate."""
+    if edit.file not in CHANGED:
+        CHANGED[edit.file] = find_changed(edit)
+    return CHANGED[edit.file]
+
+
+def find_changed(edit):
     if any(file.startswith("specs/") for file, _, _ in edit.pairs):
         return None
     before, after = functions(edit.crate), {f.path: f for f in edited(edit)}
