@@ -112,8 +112,10 @@ module _ (f : Crossing → Bool) (s c : ℕ) where
     room-line : (place : ℕ) → place < count n → listedLine (list n ++ behind) place ≡ listedLine (list n) place
     room-line place h = kept-line (list n) behind place (omega (arith, three-each f s c n))
 
-    room-at : (place : ℕ) → place < count n → ListedAt f s c (list n ++ behind) place
-    room-at place h = kept-at (list n) behind place (omega (arith, three-each f s c n)) (at-place n place h .1)
+    room-at : (place : ℕ) → place < count n → (listedLine (list n ++ behind) place < n) × ListedAt f s c (list n ++ behind) place
+    room-at place h =
+        let x = at-place n place h in
+        (rw (room-line place h) (x .0), kept-at (list n) behind place (omega (arith, three-each f s c n)) (x .1))
 
     room-rises : (i j : ℕ) → i < j → j < count n → listedLine (list n ++ behind) i < listedLine (list n ++ behind) j
     room-rises i j h k = rw (room-line i (omega arith), room-line j k) (rising-places n i j h k)

@@ -13,9 +13,10 @@ use Rattle.coupler.proofs.Promised.{remembers-main, remembers-sub}
 use Rattle.coupler.proofs.Refusals.{accepted-iff}
 use Rattle.coupler.proofs.StepLaws.{heard-size}
 use Rattle.coupler.specs.Memory.{recalled, remembering, sideOf, rememberedOn}
-use Rattle.coupler.specs.Step.{Setting, Heard, frame, nothing, heard, fromIp}
+use Rattle.coupler.specs.Step.{Setting, Heard, heardTp1, frame, nothing, heard, fromIp}
 use Rattle.coupler.specs.declared.Memory.{Memory}
 use Rattle.coupler.specs.declared.Remembered.{Remembered}
+use Rattle.frame.proofs.Valid.{ranges-of}
 use Rattle.frame.specs.declared.Meaning.{Meaning}
 use Rattle.frame.specs.declared.Refusal.{Refusal}
 use Rattle.frame.specs.declared.Refusal.the-variants.{OutOfRange}
@@ -30,6 +31,11 @@ use Rattle.octets.proofs.Word.{word-back}
 use Rattle.octets.specs.Octets.{Octets}
 use Rattle.octets.specs.Room.{laid}
 use Rattle.octets.specs.Word.{wordAt, high, low}
+use Rattle.tp1.proofs.LayoutLaws.{head-least, length-octets}
+use Rattle.tp1.proofs.RoundTrip.{read-laid}
+use Rattle.tp1.specs.Reading.{readTp1, payloadIn}
+use Rattle.tp1.specs.declared.Tp1Answer.{Tp1Answer}
+use Rattle.tp1.specs.declared.Tp1Answer.the-variants.{Frame, Refused}
 
 -- a side's half begins where the contract has it
 same-part : (side : ℕ) → side < 2 → rememberedPart side ≡ startOf side
@@ -132,6 +138,17 @@ recalls-put m side s h a b l = go (eqb side 0) refl
         let one : side ≡ 1 = omega (arith, d) in
         rw one (record { frame = remembers-sub m s b l .0; main = a; sub = remembering-length (m .sub) s b l })
 
+-- a TP1 frame that was heard has at least eight octets
+heard-least : (s : List ℕ) (m : Meaning) (p : List ℕ) → Octets s → heardTp1 (readTp1 s) s ≡ frame m p → 8 ≤ length s
+heard-least s m p o = go (readTp1 s) refl
+  where
+    go : (a : Tp1Answer) → readTp1 s ≡ a → heardTp1 a s ≡ frame m p → 8 ≤ length s
+    go (Frame x) q z =
+        let w = read-laid s x o q in
+        let l : List ℕ = payloadIn (Frame x) s in
+        omega (arith, ap length (w .layout) ∙ length-octets x l, head-least (x .extended), ranges-of x (length l) (w .valid .ranges) .some)
+    go (Refused r) q z = let y : _≡_ {A = ℕ} 0 1 = cc in absurd (omega arith)
+
 module _ {right : Bool} {k : Setting} {block s room : List ℕ} {answer : ℕ} {block′ room′ : List ℕ} (lent : right ≡ true → length block ≡ 530) (os : Octets s) (w : SteppedThrough right k block s room answer block′ room′) where
   accepted : numberIn answer ≡ 0 → Accepted right (heard k s (length room))
   accepted z = through-accepted right k s (length room) (step-told os w .accepted .0 z)
@@ -140,6 +157,7 @@ module _ {right : Bool} {k : Setting} {block s room : List ℕ} {answer : ℕ} {
   record Kept : Type 0 where
     size : length block ≡ 530
     side : k .side < 2
+    least : 8 ≤ length s
     fits : length s ≤ 263
     put : block′ ≡ blockOf (rememberedOn (memoryIn block) (k .side) s)
 
@@ -147,10 +165,11 @@ module _ {right : Bool} {k : Setting} {block s room : List ℕ} {answer : ℕ} {
   unfolding heardThrough
   kept z f =
       let a = accepted z in
-      let none = accepted-iff k s (length room) (a .meaning) (a .payload) .0 (a .hears) .0 in
+      let x = accepted-iff k s (length room) (a .meaning) (a .payload) .0 (a .hears) in
       record {
         size = lent (a .lent);
-        side = ltb-true (k .side) 2 (and-true (ltb (k .side) 2) (ltb (k .medium) 2) (not-false (ltb (k .side) 2 && ltb (k .medium) 2) (none .1 .1 .0)) .0);
+        side = ltb-true (k .side) 2 (and-true (ltb (k .side) 2) (ltb (k .medium) 2) (not-false (ltb (k .side) 2 && ltb (k .medium) 2) (x .0 .1 .1 .0)) .0);
+        least = heard-least s (a .meaning) (a .payload) os (rw f at (x .1));
         fits = heard-size k s (length room) (a .meaning) (a .payload) os (a .hears) f;
         put = w .memory ∙ rw (a .lent, a .hears, f);
       }
@@ -165,7 +184,8 @@ module _ {right : Bool} {k : Setting} {block s room : List ℕ} {answer : ℕ} {
       x .put ∙ sym (remembered-block block s (k .side) (x .size) (x .fits) ob) ∙ rw (same-part (k .side) (x .side), n)
 
   -- and the helpers read the frame
-  pub step-recalls : numberIn answer ≡ 0 → fromIp k ≡ false → (rememberedSize block′ (k .side) ≡ length s) × (take (rememberedSize block′ (k .side)) (drop (rememberedStart (k .side)) block′) ≡ s)
+  pub step-recalls : numberIn answer ≡ 0 → fromIp k ≡ false
+      → (8 ≤ length s) × ((rememberedSize block′ (k .side) ≡ length s) × (take (rememberedSize block′ (k .side)) (drop (rememberedStart (k .side)) block′) ≡ s))
   step-recalls z f =
       let x = kept z f in
       let a : length (take 265 block) ≡ 265 = length-take-le 265 block (omega (arith, x .size)) in
@@ -176,7 +196,7 @@ module _ {right : Bool} {k : Setting} {block s room : List ℕ} {answer : ℕ} {
       let e : take (rememberedSize block′ (k .side)) (drop (rememberedStart (k .side)) block′) ≡ s = remembered-is block′ (k .side) n (x .side) ∙ ap (λ (y : Memory). recalled (sideOf y (k .side))) m ∙ r .frame in
       let l : length (take (rememberedSize block′ (k .side)) (drop (rememberedStart (k .side)) block′)) ≡ rememberedSize block′ (k .side) =
       length-take-le (rememberedSize block′ (k .side)) (drop (rememberedStart (k .side)) block′) (rw length-drop (omega (arith, n, remembered-within block′ (k .side) n (x .side)))) in
-      (sym l ∙ ap length e, e)
+      (x .least, (sym l ∙ ap length e, e))
 
   -- a refused step leaves block and room; a frame from IP leaves the block
   pub step-leaves : Octets block → (numberIn answer ≡ 0 → ⊥) → (block′ ≡ block) × (room′ ≡ room)

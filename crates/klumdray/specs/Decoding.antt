@@ -135,6 +135,24 @@ tracedNumbered t = record { number = t .number; values = t .lines ∷ t .forward
 abbrev pub tracedFrom : ℕ → Numbered
 tracedFrom n = record { number = numberIn n; values = linesIn n ∷ forwardingsIn n ∷ [] }
 
+-- what an answer says
+pub record Tells (width : ℕ) (from : ℕ → Numbered) (answer : ℕ) (inner : Numbered) (Refused : Refusal → Type 0) : Type 0 where
+  -- it has no bit above its width
+  pub fits : answer < 2 ^ width
+  -- taken apart it is the inner call's answer
+  pub decoded : from answer ≡ inner
+  -- bits 0 to 7 are 0 exactly if the inner call refuses nothing; otherwise "every bit above 7 is 0"
+  pub accepted : numberIn answer ≡ 0 ↔ ((r : Refusal) → Refused r → ⊥)
+  pub alone : (numberIn answer ≡ 0 → ⊥) → answer ≡ numberIn answer
+  -- and then it is the number of the very refusal that the inner call gives
+  pub refused : (r : Refusal) → answer ≡ number r ↔ Refused r
+
+-- a reader's answer: also "payload length, TPCI onward, 1 to 255", which is that of the payload handed out
+pub record TellsReading (width : ℕ) (from : ℕ → Numbered) (answer : ℕ) (inner : Numbered) (Refused : Refusal → Type 0) (payload : List ℕ) : Type 0 where
+  pub told : Tells width from answer inner Refused
+  pub size : payloadLengthIn answer ≡ length payload
+  pub some : numberIn answer ≡ 0 → 1 ≤ payloadLengthIn answer
+
 -- where parts of the caller's own octets begin, and how many octets they have
 
 -- klumdray_tp1_payload_start
@@ -202,24 +220,6 @@ pub record ListedAt (passes : Crossing → Bool) (start count : ℕ) (room : Lis
 
 -- the list as the helpers read it off a trace's answer and room: each place has a listed line, the lines rise, and every listed line has a place
 pub record ListReads (passes : Crossing → Bool) (start count : ℕ) (answer : ℕ) (room : List ℕ) : Type 0 where
-  pub places : (place : ℕ) → place < linesIn answer → ListedAt passes start count room place
+  pub places : (place : ℕ) → place < linesIn answer → (listedLine room place < 256) × ListedAt passes start count room place
   pub rising : (place later : ℕ) → place < later → later < linesIn answer → listedLine room place < listedLine room later
   pub each : (line : ℕ) → line < 256 → isListed passes start count line ≡ true → (place : ℕ) × ((place < linesIn answer) × (listedLine room place ≡ line))
-
--- what an answer says
-pub record Tells (width : ℕ) (from : ℕ → Numbered) (answer : ℕ) (inner : Numbered) (Refused : Refusal → Type 0) : Type 0 where
-  -- it has no bit above its width
-  pub fits : answer < 2 ^ width
-  -- taken apart it is the inner call's answer
-  pub decoded : from answer ≡ inner
-  -- bits 0 to 7 are 0 exactly if the inner call refuses nothing; otherwise "every bit above 7 is 0"
-  pub accepted : numberIn answer ≡ 0 ↔ ((r : Refusal) → Refused r → ⊥)
-  pub alone : (numberIn answer ≡ 0 → ⊥) → answer ≡ numberIn answer
-  -- and then it is the number of the very refusal that the inner call gives
-  pub refused : (r : Refusal) → answer ≡ number r ↔ Refused r
-
--- a reader's answer: also "payload length, TPCI onward, 1 to 255", which is that of the payload handed out
-pub record TellsReading (width : ℕ) (from : ℕ → Numbered) (answer : ℕ) (inner : Numbered) (Refused : Refusal → Type 0) (payload : List ℕ) : Type 0 where
-  pub told : Tells width from answer inner Refused
-  pub size : payloadLengthIn answer ≡ length payload
-  pub some : numberIn answer ≡ 0 → 1 ≤ payloadLengthIn answer

@@ -148,7 +148,9 @@ module _ (codes : List ℕ) (k : Setting) (block s room : List ℕ) (answer : �
       → block′ ≡ laid s (rememberedStart (k .side)) (laid (high (length s) ∷ low (length s) ∷ []) (rememberedPart (k .side)) block)
   step-remembers-frame = step-remembers lent o w
 
-  pub step-recalls-frame : numberIn answer ≡ 0 → fromIp k ≡ false → (rememberedSize block′ (k .side) ≡ length s) × (take (rememberedSize block′ (k .side)) (drop (rememberedStart (k .side)) block′) ≡ s)
+  -- "A size above 263 counts as none. No step leaves one, nor a size from 1 to 7"; what the helpers read is the frame
+  pub step-recalls-frame : numberIn answer ≡ 0 → fromIp k ≡ false
+      → (8 ≤ length s) × ((rememberedSize block′ (k .side) ≡ length s) × (take (rememberedSize block′ (k .side)) (drop (rememberedStart (k .side)) block′) ≡ s))
   step-recalls-frame = step-recalls lent o w
 
   -- "After a frame from IP, and after a refusal, the whole block is as it was."; "A refused step leaves room and memory as they were."
