@@ -1,11 +1,12 @@
 -- Document 01: "These idle programs have to be shut out". A program is any function that meets the contract of its call; each theorem shows
 -- that none of the kind named does, from the case or the demand that the paper names beside it.
-use Prim.Native.Nat.{ℕ, zero, suc, _≤_}
+use Prim.Native.Nat.{ℕ, zero, suc, _-_, _≤_, _<_}
 use mathlib.Core.Bool.{true, false}
 use mathlib.Core.List.{List, [], _∷_}
 use mathlib.Core.Path.{_≡_, refl, sym, ap, _∙_, subst}
 use native.Mathlib.Omega.{arith}
 use lib.ListN.{length, take, replicate, length-replicate}
+use borrow.Author.Tests.{le-ltb}
 use Rattle.coupler.specs.Memory.{kept, recalled, noMemory, sideOf}
 use Rattle.coupler.specs.Series.{Input, Done, Follows}
 use Rattle.coupler.specs.Step.{Setting, settingOf, Heard, frame, nothing, heard, outcomeOf, sent, memoryAfter, Did}
@@ -14,7 +15,8 @@ use Rattle.coupler.specs.declared.Outcome.{Outcome}
 use Rattle.frame.proofs.Writing.{put-iff, wrote-over}
 use Rattle.frame.specs.Answers.{Numbered, writtenNumbered}
 use Rattle.frame.specs.Fields.{controlOf, ctrleOf}
-use Rattle.frame.specs.Order.{firstOf}
+use Rattle.frame.proofs.Order.{passed-iff}
+use Rattle.frame.specs.Order.{Verdict, firstOf, NoneOf, pass}
 use Rattle.frame.specs.Valid.{inRange}
 use Rattle.frame.specs.Writing.{Wrote}
 use Rattle.frame.specs.declared.Meaning.{Meaning}
@@ -22,15 +24,19 @@ use Rattle.frame.specs.declared.Written.{Written}
 use Rattle.octets.specs.Octets.{octetAt}
 use Rattle.octets.specs.Room.{over}
 use Rattle.site.specs.Stores.{Stores, stores}
+use Rattle.site.specs.WellFormed.{siteTests}
 use Rattle.tp1.specs.Answers.{tp1Numbered}
 use Rattle.octets.specs.Check.{checkOctet}
 use Rattle.tp1.specs.Layout.{head, sealed, tp1Octets}
 use Rattle.tp1.specs.Reading.{readTp1}
 use Rattle.tp1.specs.declared.Tp1Answer.{Tp1Answer}
-use Rattle.tracer.specs.Listing.{Query, queryOf}
-use Rattle.tracer.specs.Tracing.{traceTests, tracedBy, listBy, DidTrace}
+use Rattle.tracer.proofs.Standing.{stands-iff}
+use Rattle.tracer.specs.Lines.{path, distance}
+use Rattle.tracer.specs.Listing.{Query, queryOf, StandsIn, listed, linesListed}
+use Rattle.tracer.specs.Tracing.{isQuery, traceTests, tracedBy, listBy, DidTrace}
 use Rattle.tracer.specs.declared.Traced.{Traced}
 use Rattle.promises.specs.Telegrams.{Case, _hears_and_, Does, sends, Holds, Every, P1, P2, P7, P8, P10, P12a, cases, fromIpOpen, broadcastOpen, closedRow, fourCouplers}
+use Rattle.promises.proofs.Demand3.{lists-exactly}
 use Rattle.promises.proofs.Telegrams.{every}
 
 -- the case at a place of the list
@@ -219,6 +225,31 @@ module _ (trace : Stores → List ℕ → Query → List ℕ → TraceLeft)
     pub lists-all-lines : ((st : Stores) (site : List ℕ) (q : Query) (room : List ℕ) → trace st site q room .answer .number ≡ 0 → trace st site q room .answer .lines ≡ 256) → ⊥
     lists-all-lines h =
         omega (arith, ap (λ (t : Traced). t .lines) answer-p12, h (stores [] []) (fourCouplers 2) queryP12 lent768 (ap (λ (t : Traced). t .number) answer-p12))
+
+-- "invented crossings or forwardings (demand 3: path length, listed lines less one)": on no well-formed site and no query does what is told of a
+-- listed line or of the forwardings differ from these
+
+module _ (trace : Stores → List ℕ → Query → List ℕ → TraceLeft)
+    (meets : (st : Stores) (site : List ℕ) (q : Query) (room : List ℕ) → DidTrace st site q room (trace st site q room .answer) (trace st site q room .room))
+    (st : Stores) (site : List ℕ) (q : Query) (room : List ℕ) (well : NoneOf (siteTests st site)) (asks : isQuery q ≡ true) (small : q .start < 256) (large : 768 ≤ length room)
+  where
+    abbrev left : TraceLeft
+    left = trace st site q room
+
+    passed : firstOf (traceTests st site q (length room)) ≡ pass
+    passed = passed-iff (traceTests st site q (length room)) .1 (rw asks refl, (le-ltb (length room) 768 large, well))
+
+    -- three octets of the list tell of a line another number of couplers crossed than its path has
+    pub invents-crossings : (line count crossed : ℕ) → StandsIn (left .room) (left .answer .lines) line count crossed → (crossed ≡ length (path (q .start) line) → ⊥) → ⊥
+    unfolding distance
+    invents-crossings line count crossed s other =
+        let lines : left .answer .lines ≡ linesListed st site q = ap (λ (t : Traced). t .lines) (meets st site q room .answered ∙ ap (tracedBy st site q) passed) in
+        let front : left .room ≡ over (listed st site q) room = meets st site q room .left ∙ ap (λ (v : Verdict). over (listBy st site q v) room) passed in
+        let told = stands-iff st site q room line count crossed .0 (subst (λ (n : ℕ). StandsIn (over (listed st site q) room) n line count crossed) lines (subst (λ (l : List ℕ). StandsIn l (left .answer .lines) line count crossed) front s)) in
+        other (sym (told .1 .crosses))
+
+    pub invents-forwardings : (left .answer .forwardings ≡ left .answer .lines - 1 → ⊥) → ⊥
+    invents-forwardings n = n (lists-exactly st site q room (left .room) (left .answer) well asks small large .0 (meets st site q room) .forwarded)
 
 -- "Round trips speak of demand 2's layouts, so a writer that keeps its own private form fails."
 

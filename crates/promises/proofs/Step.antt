@@ -10,6 +10,7 @@ use native.Mathlib.Omega.{arith}
 use lib.Dec.{ltb, eqb}
 use lib.ListN.{length}
 use borrow.Author.Tests.{ltb-true, eqb-true, eqb-false, not-false, ne-eqb}
+use Rattle.coupler.proofs.Answers.{acknowledgement-apart}
 use Rattle.coupler.proofs.Promised.{Forwardable, forwardable-iff, forwarded-iff, acknowledged-iff, remembers-main, remembers-sub}
 use Rattle.coupler.proofs.Refusals.{number-iff}
 use Rattle.coupler.proofs.StepLaws.{forwarded-ranged, heard-size}
@@ -70,15 +71,9 @@ pub record Refuses (m : Memory) (room : List ℕ) (r : Refusal) (o : Outcome) (m
   pub writes-nothing : room′ ≡ room
 
 -- how a step ends: either way, and no other
-pub data Ends (k : Setting) (m : Memory) (s room : List ℕ) (o : Outcome) (m′ : Memory) (room′ : List ℕ) : Type 0 where
-  accepts : (x : Meaning) (p : List ℕ) → Hears k s (length room) x p → Draws k m s room x p o m′ room′ → Ends k m s room o m′ room′
-  refuses : (r : Refusal) → FirstIs (stepTests k s (length room)) r → Refuses m room r o m′ room′ → Ends k m s room o m′ room′
-
-acknowledgement-one : (a b : Acknowledgement) → acknowledgementNumber a ≡ acknowledgementNumber b → a ≡ b
-acknowledgement-one Silence Silence e = refl
-acknowledgement-one Silence Acknowledged e = absurd (omega arith)
-acknowledgement-one Acknowledged Silence e = absurd (omega arith)
-acknowledgement-one Acknowledged Acknowledged e = refl
+pub data StepEnds (k : Setting) (m : Memory) (s room : List ℕ) (o : Outcome) (m′ : Memory) (room′ : List ℕ) : Type 0 where
+  accepts : (x : Meaning) (p : List ℕ) → Hears k s (length room) x p → Draws k m s room x p o m′ room′ → StepEnds k m s room o m′ room′
+  refuses : (r : Refusal) → FirstIs (stepTests k s (length room)) r → Refuses m room r o m′ room′ → StepEnds k m s room o m′ room′
 
 heard-apart : {A : Type 0} {x : Meaning} {p : List ℕ} {r : Refusal} → nothing r ≡ frame x p → A
 heard-apart e = let z : _≡_ {A = ℕ} 0 1 = cc in absurd (omega arith)
@@ -115,10 +110,10 @@ module _ (k : Setting) (m : Memory) (s room : List ℕ) where
   moved x p a b l = transport (λ j. Draws k m s room x p (a j) (b j) (l j))
 
   -- every outcome that the contract allows
-  pub step-ends : (o : Outcome) (m′ : Memory) (room′ : List ℕ) → Octets s → Did k m s room o m′ room′ → Ends k m s room o m′ room′
+  pub step-ends : (o : Outcome) (m′ : Memory) (room′ : List ℕ) → Octets s → Did k m s room o m′ room′ → StepEnds k m s room o m′ room′
   step-ends o m′ room′ c d = go (heard k s (length room)) refl
     where
-      go : (h : Heard) → heard k s (length room) ≡ h → Ends k m s room o m′ room′
+      go : (h : Heard) → heard k s (length room) ≡ h → StepEnds k m s room o m′ room′
       go (frame x p) e =
           let a : outcomeOf k (rememberedBy k m) (frame x p) ≡ o = sym (d .handed .outcome ∙ ap (outcomeOf k (rememberedBy k m)) e) in
           let b : memoryAfter k m s (frame x p) ≡ m′ = sym (d .memory ∙ ap (memoryAfter k m s) e) in
@@ -167,12 +162,12 @@ module _ (k : Setting) (m : Memory) (s room : List ℕ) where
     draws-one : (o₁ ≡ o₂) × ((m₁ ≡ m₂) × (room₁ ≡ room₂))
     draws-one =
         let n : o₁ .number ≡ o₂ .number = a .accepted ∙ sym (b .accepted) in
-        let c : o₁ .acknowledgement ≡ o₂ .acknowledgement = acknowledgement-one _ _ one-acknowledgement in
+        let c : o₁ .acknowledgement ≡ o₂ .acknowledgement = acknowledgement-apart _ _ one-acknowledgement in
         let i : o₁ .own ≡ o₂ .own = a .itself ∙ sym (b .itself) in
         ((λ j. record { number = n j; acknowledgement = c j; own = i j; forwarded = one-forwarding .0 j }), (one-memory, one-forwarding .1))
 
   -- the statement leaves no choice: two ends of a step coincide in result, memory and room
-  pub step-one : {o₁ o₂ : Outcome} {m₁ m₂ : Memory} {room₁ room₂ : List ℕ} → Octets s → Ends k m s room o₁ m₁ room₁ → Ends k m s room o₂ m₂ room₂ → (o₁ ≡ o₂) × ((m₁ ≡ m₂) × (room₁ ≡ room₂))
+  pub step-one : {o₁ o₂ : Outcome} {m₁ m₂ : Memory} {room₁ room₂ : List ℕ} → Octets s → StepEnds k m s room o₁ m₁ room₁ → StepEnds k m s room o₂ m₂ room₂ → (o₁ ≡ o₂) × ((m₁ ≡ m₂) × (room₁ ≡ room₂))
   step-one {o₁} {o₂} {m₁} {m₂} {room₁} {room₂} c (accepts x p h a) (accepts y q i b) =
       let e : frame x p ≡ frame y q = sym (hears-iff k s (length room) x p c .1 h) ∙ hears-iff k s (length room) y q c .1 i in
       let ex : y ≡ x = cc in
@@ -184,7 +179,7 @@ module _ (k : Setting) (m : Memory) (s room : List ℕ) where
       let e : nothing r ≡ nothing q = sym (refuses-iff k s (length room) r .1 f) ∙ refuses-iff k s (length room) q .1 g in
       let z : r ≡ q = cc in
       let n : o₁ .number ≡ o₂ .number = a .numbered ∙ ap number z ∙ sym (b .numbered) in
-      let l : o₁ .acknowledgement ≡ o₂ .acknowledgement = acknowledgement-one _ _ (a .silent ∙ sym (b .silent)) in
+      let l : o₁ .acknowledgement ≡ o₂ .acknowledgement = acknowledgement-apart _ _ (a .silent ∙ sym (b .silent)) in
       let i : o₁ .own ≡ o₂ .own = a .not-itself ∙ sym (b .not-itself) in
       let w : o₁ .forwarded ≡ o₂ .forwarded = a .sends-nothing ∙ sym (b .sends-nothing) in
       ((λ j. record { number = n j; acknowledgement = l j; own = i j; forwarded = w j }), (a .remembers-as-before ∙ sym (b .remembers-as-before), a .writes-nothing ∙ sym (b .writes-nothing)))
@@ -228,7 +223,7 @@ module _ (k : Setting) (m m′ : Memory) (s room room′ : List ℕ) (o : Outcom
     where
       to : (h : Heard) → heard k s (length room) ≡ h → acknowledgementNumber (o .acknowledgement) ≡ 0xCC → HearsOne k s (length room) (Earns k)
       to (frame x p) e z =
-          let a = acknowledged-iff k (rememberedBy k m) x p .0 (acknowledgement-one _ Acknowledged (sym (ap (λ (u : Outcome). acknowledgementNumber (u .acknowledgement)) (outcome-of _ e)) ∙ z)) in
+          let a = acknowledged-iff k (rememberedBy k m) x p .0 (acknowledgement-apart _ Acknowledged (sym (ap (λ (u : Outcome). acknowledgementNumber (u .acknowledgement)) (outcome-of _ e)) ∙ z)) in
           record { meaning = x; payload = p; hears = hears-iff k s (length room) x p c .0 e; has = record { on-tp1 = a .0; addressed = a .1 } }
       to (nothing r) e z = absurd (omega (arith, ap (λ (u : Outcome). acknowledgementNumber (u .acknowledgement)) (outcome-of _ e), z))
 
