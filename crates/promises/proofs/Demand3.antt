@@ -32,7 +32,7 @@ use Rattle.tracer.proofs.ListLaws.{trace-three-each, trace-less-one}
 use Rattle.tracer.proofs.Paths.{by-cases, path-same, distance-four}
 use Rattle.tracer.proofs.RoomList.{Rising, octetsOf, rising-one, listed-at, listed-iff, lasts-iff, linesOn, lines-octets, lines-count, lines-rise, lines-are}
 use Rattle.tracer.specs.Answers.{explanationNumbered}
-use Rattle.tracer.specs.Lines.{Crossing, path, distance}
+use Rattle.tracer.specs.Lines.{mainSide, Crossing, path, distance}
 use Rattle.tracer.specs.Listing.{isListed, Query, crossingPasses, allPass, onArrival, listed, linesListed}
 use Rattle.tracer.specs.Tracing.{isQuery, traceTests, tracedBy, listBy, DidTrace}
 use Rattle.tracer.specs.Why.{whyOf, whyTests, answerWhy}
@@ -122,6 +122,11 @@ lists-exactly st site q room room′ answer w a b h = (
   signs st site q room room′ answer w a b h,
   (λ s. let x = signed-one s (signs st site q room _ _ w a b h (record { answered = refl; left = refl })) in record { answered = x .0; left = x .1 }),
 )
+
+-- "So the main side of 47h is 40h, and of 40h it is 00h."
+pub main-sides : (mainSide 0x47 ≡ 0x40) × (mainSide 0x40 ≡ 0x00)
+unfolding mainSide
+main-sides = (refl, refl)
 
 -- "Distance is the number of couplers on it, 0 to 4."
 pub at-most-four : (start line : ℕ) → length (path start line) ≤ 4
