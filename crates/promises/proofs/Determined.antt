@@ -3,7 +3,7 @@ use mathlib.Core.Path.{_≡_, refl, sym, _∙_}
 use Rattle.octets.proofs.Part.{part-one}
 use Rattle.frame.proofs.Writing.{wrote-one}
 use Rattle.coupler.proofs.StepLaws.{handed-one, did-one}
-use Rattle.site.proofs.LettingLaws.{marks-one}
+use Rattle.site.proofs.LettingLaws.{both-ways-one}
 use Rattle.tracer.proofs.ListedBy.{traced-one}
 use Rattle.report.proofs.ReportLaws.{reported-one}
 use Rattle.klumdray.proofs.Surface.{wrote-number-one, traced-through-one}
@@ -262,7 +262,7 @@ pub site-judge-stated : Stated site-judge-kinds.ps site-judge-kinds.r site-judge
 site-judge-stated = record { determines = λ κs args r₁ r₂ w₁ w₂ x y. (x ∙ sym y, refl); free = λ κs args. tt; whole = λ κs args r e w. refl }
 
 pub site-letting-stated : Stated site-letting-kinds.ps site-letting-kinds.r site-letting-reads.Pre site-letting-reads.Post (λ κs a. site-letting-reads.ensures κs a tt)
-site-letting-stated = record { determines = λ κs args r₁ r₂ w₁ w₂ x y. (marks-one x y, refl); free = λ κs args. tt; whole = λ κs args r e w. refl }
+site-letting-stated = record { determines = λ κs args r₁ r₂ w₁ w₂ x y. (both-ways-one x y, refl); free = λ κs args. tt; whole = λ κs args r e w. refl }
 
 pub site-why-not-stated : Stated site-why-not-kinds.ps site-why-not-kinds.r site-why-not-reads.Pre site-why-not-reads.Post (λ κs a. site-why-not-reads.ensures κs a tt)
 site-why-not-stated = record { determines = λ κs args r₁ r₂ w₁ w₂ x y. (x ∙ sym y, refl); free = λ κs args. tt; whole = λ κs args r e w. refl }

@@ -13,7 +13,8 @@ use Rattle.coupler.specs.Passing.{mayPass, passageOf, doesPass}
 use Rattle.coupler.specs.declared.Passage.the-variants.{NotFitted}
 use Rattle.coupler.specs.declared.Passage.{Passage}
 use Rattle.site.proofs.RecordLaws.{records-more, records-end, by-equal}
-use Rattle.site.specs.Letting.{recordPasses, letsPass, lineLetsPass, Marks, passageBy, passageAt}
+use Rattle.site.specs.Letting.{recordPasses, letsPass, lineLetsPass, Marks, MarksBothWays, passageBy, passageAt}
+use Rattle.site.specs.declared.BothWays.{BothWays}
 use Rattle.site.specs.Records.{recordsOf, lineOf, codesOf, tableNumber, couplerIn, couplerOf, isFitted}
 use Rattle.site.specs.Stages.{recordAt}
 use Rattle.site.specs.Stores.{Stores, tableOf}
@@ -33,23 +34,23 @@ answers-found f line found (r ∷ rs) =
     answers-found f line (cond (eqb (lineOf r) line) r found) rs ∙ ap (λ (b : Bool). answersIn f line b rs) (of-chosen f (eqb (lineOf r) line) r found)
 
 -- the marks say of every line what the records before an index do
-pub record Letting (f : List ℕ → Bool) (site : List ℕ) (marks : List Bool) (from : ℕ) : Type 0 where
+pub record Marking (f : List ℕ → Bool) (site : List ℕ) (marks : List Bool) (from : ℕ) : Type 0 where
   pub most : from ≤ length site
   pub size : length marks ≡ 256
   pub each : (n : ℕ) → n < 256 → f (couplerOf n (recordsOf site)) ≡ answersIn f n (getD marks n false) (recordsOf (drop from site))
 
-pub letting-none : (f : List ℕ → Bool) (site : List ℕ) (marks : List Bool) → f [] ≡ false → marks ≡ replicate 256 false → Letting f site marks 0
+pub marking-none : (f : List ℕ → Bool) (site : List ℕ) (marks : List Bool) → f [] ≡ false → marks ≡ replicate 256 false → Marking f site marks 0
 unfolding couplerOf
-letting-none f site marks z e = record {
+marking-none f site marks z e = record {
   most = omega arith;
   size = ap length e;
   each = λ n h. answers-found f n [] (recordsOf site) ∙ ap (λ (b : Bool). answersIn f n b (recordsOf site)) (z ∙ sym (ap (λ (l : List Bool). getD l n false) e ∙ getD-replicate 256 n false false h));
 }
 
-pub letting-more : {f : List ℕ → Bool} {site : List ℕ} {marks : List Bool} {from : ℕ} → Letting f site marks from → 12 ≤ length site - from
+pub marking-more : {f : List ℕ → Bool} {site : List ℕ} {marks : List Bool} {from : ℕ} → Marking f site marks from → 12 ≤ length site - from
     → {octets : List ℕ} {line : ℕ} {mark : Bool} → octets ≡ recordAt site from → line ≡ lineOf octets → line < 256 → mark ≡ f octets
-    → Letting f site (set marks line mark) (from + 12)
-letting-more {f} {site} {marks} {from} w h {octets} {line} {mark} r l b m = record {
+    → Marking f site (set marks line mark) (from + 12)
+marking-more {f} {site} {marks} {from} w h {octets} {line} {mark} r l b m = record {
   most = omega arith;
   size = length-set marks line mark ∙ w .size;
   each = λ n hn.
@@ -62,17 +63,20 @@ letting-more {f} {site} {marks} {from} w h {octets} {line} {mark} r l b m = reco
       ∙ ap (λ (x : Bool). answersIn f n x rest) c;
 }
 
-pub letting-all : (st : Stores) (group : Bool) (destination direction : ℕ) {site : List ℕ} {marks : List Bool} {from : ℕ}
-    → Letting (letsPass st group destination direction) site marks from → length site - from < 12 → Marks (lineLetsPass st group destination (recordsOf site) direction) marks
+pub marking-all : (st : Stores) (group : Bool) (destination direction : ℕ) {site : List ℕ} {marks : List Bool} {from : ℕ}
+    → Marking (letsPass st group destination direction) site marks from → length site - from < 12 → Marks (lineLetsPass st group destination (recordsOf site) direction) marks
 unfolding lineLetsPass
-letting-all st group destination direction {site} {marks} {from} w h = record {
+marking-all st group destination direction {site} {marks} {from} w h = record {
   size = w .size;
   each = λ n hn. sym (rw (records-end site from h) at (w .each n hn));
 }
 
-pub lets-whole : (st : Stores) (group : Bool) (destination direction : ℕ) (octets : List ℕ) → length octets ≡ 12
-    → recordPasses st group destination direction octets ≡ letsPass st group destination direction octets
-lets-whole st group destination direction octets h = rw h refl
+-- the coupler's own test, with what a whole record says
+pub record-lets : (st : Stores) (group : Bool) (destination direction : ℕ) (octets : List ℕ) {line number : ℕ} {codes : List (List ℕ)} {table : List ℕ} {mark : Bool}
+    → line ≡ lineOf octets → codes ≡ codesOf octets → number ≡ tableNumber octets → table ≡ tableOf number st → length octets ≡ 12
+    → mark ≡ mayPass line codes table direction group destination → mark ≡ letsPass st group destination direction octets
+unfolding recordPasses
+record-lets st group destination direction octets l k n t w m = m ∙ rw (l, k, t, n, w) refl
 
 -- the record that is found
 pub record Seeking (line : ℕ) (site : List ℕ) (found from : ℕ) : Type 0 where
@@ -118,6 +122,12 @@ passage-lets st group destination records direction line count = pick (couplerOf
         (passes-iff (lineOf r) (codesOf r) table direction group destination count)
 
 -- the marks are determined
-pub marks-one : {f : ℕ → Bool} {a b : List Bool} → Marks f a → Marks f b → a ≡ b
+marks-one : {f : ℕ → Bool} {a b : List Bool} → Marks f a → Marks f b → a ≡ b
 marks-one {a = a} {b = b} x y =
     ext-getD false a b (x .size ∙ sym (y .size)) (λ i h. let k : i < 256 = omega (arith, x .size) in x .each i k ∙ sym (y .each i k))
+
+pub both-ways-one : {f : ℕ → ℕ → Bool} {a b : BothWays} → MarksBothWays f a → MarksBothWays f b → a ≡ b
+both-ways-one {a = a} {b = b} x y =
+    let d : a .down ≡ b .down = marks-one (x .downward) (y .downward) in
+    let u : a .up ≡ b .up = marks-one (x .upward) (y .upward) in
+    λ i. record { down = d i; up = u i }

@@ -8,9 +8,7 @@ use lib.Dec.{eqb}
 use lib.ListN.{length, drop, length-drop}
 use lib.Seq.{length-take-le, drop-drop}
 use borrow.Author.Tests.{eqb-true, eqb-false, le-leb}
-use Rattle.coupler.specs.Settings.{codeIn}
-use Rattle.octets.specs.Octets.{octetAt}
-use Rattle.site.specs.Records.{recordsOf, codesOf}
+use Rattle.site.specs.Records.{recordsOf}
 use Rattle.site.specs.Stages.{recordAt}
 
 pub records-more : (site : List ℕ) (from : ℕ) → 12 ≤ length site - from → recordsOf (drop from site) ≡ recordAt site from ∷ recordsOf (drop (from + 12) site)
@@ -37,24 +35,3 @@ by-equal {P} m n f g = pick (eqb m n) refl
     pick : (b : Bool) → eqb m n ≡ b → P
     pick true e = f (eqb-true m n e)
     pick false e = g (eqb-false m n e)
-
--- the eight codes stand one behind the other
-pub code-stands : (r : List ℕ) (direction class : ℕ) → direction < 2 → class < 4 → octetAt r (3 + direction * 4 + class) ≡ codeIn (codesOf r) direction class
-unfolding codesOf
-code-stands r zero zero d c = refl
-code-stands r zero (suc zero) d c = refl
-code-stands r zero (suc (suc zero)) d c = refl
-code-stands r zero (suc (suc (suc zero))) d c = refl
-code-stands r zero (suc (suc (suc (suc n)))) d c = absurd (omega arith)
-code-stands r (suc zero) zero d c = refl
-code-stands r (suc zero) (suc zero) d c = refl
-code-stands r (suc zero) (suc (suc zero)) d c = refl
-code-stands r (suc zero) (suc (suc (suc zero))) d c = refl
-code-stands r (suc zero) (suc (suc (suc (suc n)))) d c = absurd (omega arith)
-code-stands r (suc (suc m)) class d c = absurd (omega arith)
-
-pub code-outside : (r : List ℕ) (direction class : ℕ) → 2 ≤ direction → 0 ≡ codeIn (codesOf r) direction class
-unfolding codesOf
-code-outside r zero class h = absurd (omega arith)
-code-outside r (suc zero) class h = absurd (omega arith)
-code-outside r (suc (suc m)) class h = refl

@@ -7,6 +7,7 @@ use lib.ListN.{length, getD}
 use Rattle.coupler.specs.Passing.{mayPass, passageOf}
 use Rattle.coupler.specs.declared.Passage.the-variants.{NotFitted}
 use Rattle.coupler.specs.declared.Passage.{Passage}
+use Rattle.site.specs.declared.BothWays.{BothWays}
 use Rattle.site.specs.Records.{lineOf, codesOf, tableNumber, couplerOf, isFitted}
 use Rattle.site.specs.Stores.{Stores, tableOf}
 
@@ -26,6 +27,11 @@ lineLetsPass st group destination records direction line = letsPass st group des
 pub record Marks (holds : ℕ → Bool) (marks : List Bool) : Type 0 where
   pub size : length marks ≡ 256
   pub each : (line : ℕ) → line < 256 → getD marks line false ≡ holds line
+
+-- "in its direction of travel": 0 main to sub, 1 sub to main
+pub record MarksBothWays (holds : ℕ → ℕ → Bool) (marks : BothWays) : Type 0 where
+  pub downward : Marks (holds 0) (marks .down)
+  pub upward : Marks (holds 1) (marks .up)
 
 -- what the coupler of a line makes of a telegram with this count: the first reason not to hand it on, "no coupler fitted" before all others
 unfoldable pub passageBy : Stores → Bool → ℕ → ℕ → ℕ → List ℕ → Passage

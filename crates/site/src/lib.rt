@@ -5,17 +5,21 @@ pub mod stores;
 
 ghost use mathlib.Core.Path.{_≡_};
 ghost use mathlib.Core.List.{[]};
-ghost use Prim.Native.Nat.{_<_};
-ghost use Rattle.coupler.specs.Settings.{classOf};
 ghost use Rattle.frame.specs.Order.{firstOf};
 ghost use Rattle.coupler.specs.Step.{judgedBy};
 ghost use Rattle.site.specs.Stores.{stores};
 ghost use Rattle.site.specs.Records.{recordsOf};
 ghost use Rattle.site.specs.WellFormed.{hasTable, recordTests, recordsTests, siteTests};
-ghost use Rattle.site.specs.Letting.{recordPasses, lineLetsPass, Marks, passageAt};
+ghost use Rattle.site.specs.Letting.{lineLetsPass, MarksBothWays, passageAt};
 use coupler::Judged;
 use coupler::Passage;
 use frame::Refusal;
+
+// A mark for each of the 256 lines, of its coupler: main to sub and sub to main.
+pub struct BothWays {
+    pub down: [bool; 256],
+    pub up: [bool; 256],
+}
 
 // "FFh is allowed where no group code of that record is 1; every other number must lie in its store."
 fn has_table<'a>(octets: &[u8], project: &'a [u8], own: &'a [u8]) -> bool
@@ -87,47 +91,31 @@ pub fn judge<'a>(site: &[u8], project: &'a [u8], own: &'a [u8]) -> Judged
     }
 }
 
-// Asked with the one code that its direction and the address's class have in the record.
-fn lets_pass<'a>(
-    octets: &[u8],
-    project: &'a [u8],
-    own: &'a [u8],
-    direction: u8,
-    class: usize,
-    group: bool,
-    destination: u16,
-) -> bool
-    requires { ⌜ (class ≡ classOf group destination) × (class < 4) ⌝ }
-    ensures { λ r. ⌜ r ≡ recordPasses (stores (now (project .entry)) (now (own .entry))) group destination direction (now (octets .entry)) ⌝ }
-{
-    let line = records::line_of(octets);
-    let code = records::code_at(octets, direction, class);
-    let table = stores::table_of(records::table_number(octets), project, own);
-    coupler::code_passes(line, code, table, direction, group, destination)
-}
-
-// For every line whether its coupler is fitted and lets the telegram pass in this direction (0 main
-// to sub, 1 sub to main): each coupler is asked once.
+// For every line whether its coupler is fitted and lets the telegram pass, main to sub and sub to main:
+// each record is read once, for both directions.
 pub fn letting<'a>(
     site: &[u8],
     project: &'a [u8],
     own: &'a [u8],
-    direction: u8,
     group: bool,
     destination: u16,
-) -> [bool; 256]
-    ensures { λ r. ⌜ Marks (lineLetsPass (stores (now (project .entry)) (now (own .entry))) group destination (recordsOf (now (site .entry))) direction) r ⌝ }
+) -> BothWays
+    ensures { λ r. ⌜ MarksBothWays (lineLetsPass (stores (now (project .entry)) (now (own .entry))) group destination (recordsOf (now (site .entry)))) r ⌝ }
 {
-    let class = coupler::class_of(group, destination);
-    let mut marks = [false; 256];
+    let mut down = [false; 256];
+    let mut up = [false; 256];
     let mut from = 0;
     while site.len() - from >= 12 {
         let octets = records::record_at(site, from);
-        let line = records::line_of(octets) as usize;
-        marks[line] = lets_pass(octets, project, own, direction, class, group, destination);
+        let line = records::line_of(octets);
+        let codes = records::codes_of(octets);
+        let table = stores::table_of(records::table_number(octets), project, own);
+        let at = line as usize;
+        down[at] = coupler::may_pass(line, codes, table, 0, group, destination);
+        up[at] = coupler::may_pass(line, codes, table, 1, group, destination);
         from += 12;
     }
-    marks
+    BothWays { down, up }
 }
 
 // What the coupler of a line makes of a telegram that comes to it with this count.

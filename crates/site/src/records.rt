@@ -1,7 +1,5 @@
 // The records of a site, and what each says.
 ghost use mathlib.Core.Path.{_≡_};
-ghost use Prim.Native.Nat.{_<_};
-ghost use Rattle.coupler.specs.Settings.{codeIn};
 ghost use Rattle.site.specs.Records.{recordsOf, isMarked, lineOf, codesOf, tableNumber, couplerOf};
 ghost use Rattle.site.specs.Stages.{recordAt};
 
@@ -50,19 +48,6 @@ pub(crate) fn codes_of(octets: &[u8]) -> [[u8; 4]; 2]
         octets::octet(octets, 10),
     ];
     [down, up]
-}
-
-// One of them alone: that of a direction and a class of addresses, 0 outside the directions.
-pub(crate) fn code_at(octets: &[u8], direction: u8, class: usize) -> u8
-    requires { ⌜ class < 4 ⌝ }
-    ensures { λ r. ⌜ r ≡ codeIn (codesOf (now (octets .entry))) direction class ⌝ }
-{
-    if direction < 2 {
-        let at = 3 + direction as usize * 4 + class;
-        octets::octet(octets, at)
-    } else {
-        0
-    }
 }
 
 pub(crate) fn table_number(octets: &[u8]) -> u8

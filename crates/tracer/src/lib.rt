@@ -94,8 +94,9 @@ fn list<'a>(
     ensures { λ r. ⌜ DidList (stores (now (project .entry)) (now (own .entry))) (now (site .entry)) (queryOf start kind destination count) (now (room .entry)) r (now (room .exit)) ⌝ }
 {
     let group = kind == 1;
-    let down = site::letting(site, project, own, 0, group, destination);
-    let up = site::letting(site, project, own, 1, group, destination);
+    let passing = site::letting(site, project, own, group, destination);
+    let down = passing.down;
+    let up = passing.up;
     let arrivals = reaching::spread(&down, &up, start, count);
     let reached = arrivals.lines;
     let lines = listing::list(&reached, count, room);

@@ -1,10 +1,10 @@
--- The loop's law `Letting`: each record marks its line.
+-- The loop's law `Marking`, of the marks of either direction: each record marks its line.
 use Prim.Native.Nat.{_-_}
 use mathlib.Core.Path.{refl, ap, _∙_}
 use native.Mathlib.Omega.{arith}
 use lib.ListN.{length}
 use borrow.Author.Needs.{needs}
-use Rattle.site.proofs.LettingLaws.{Letting, letting-none, letting-more, letting-all, lets-whole}
+use Rattle.site.proofs.LettingLaws.{Marking, marking-none, marking-more, marking-all, record-lets}
 use Rattle.site.proofs.RecordLaws.{record-whole}
 use Rattle.site.specs.Letting.{letsPass}
 use Rattle.site.specs.Stores.{stores}
@@ -12,24 +12,35 @@ use Rattle.site.proofs.letting.Statement.{statement}
 use Rattle.site.proofs.letting.Tie as tie
 
 abbrev Inv-loop : tie.InvT-loop
-Inv-loop site project own direction group destination class marks₀ from₀ marks from =
-    Letting (letsPass (stores project own) group destination direction) site marks from
+Inv-loop site project own group destination down₀ up₀ from₀ down up from =
+    Marking (letsPass (stores project own) group destination 0) site down from × Marking (letsPass (stores project own) group destination 1) site up from
 
 abbrev μ-loop : tie.MeasureT-loop
-μ-loop site project own direction group destination class marks₀ from₀ marks from =
+μ-loop site project own group destination down₀ up₀ from₀ down up from =
     length site - from
 
 loop-holds : tie.Need-loop-holds Inv-loop μ-loop
 loop-holds c =
-    letting-none _ _ _ refl refl
+    (marking-none _ _ _ refl refl, marking-none _ _ _ refl refl)
 
 loop-again : tie.Need-loop-again Inv-loop μ-loop
 loop-again c =
-    letting-more (c .before .before .before .before .loop .inv) (omega arith) (c .before .before .record-at .ensures) (c .before .line-of .ensures) (search needs) (c .lets-pass .ensures ∙ lets-whole _ _ _ _ _ (ap length (c .before .before .record-at .ensures) ∙ record-whole _ _ (omega arith)))
+    let told = c .before .before in
+    let line = told .before .before .before in
+    let octets = line .before .record-at .ensures in
+    let whole = ap length octets ∙ record-whole _ _ (omega arith) in
+    let inv = line .before .before .before .loop .inv in
+    let l = line .line-of .ensures in
+    let k = told .before .before .codes-of .ensures in
+    let n = told .before .table-number .ensures in
+    let t = told .table-of .ensures .table .holds in (
+      marking-more (inv .0) (omega arith) octets l (search needs) (record-lets _ _ _ _ _ l k n t whole (c .before .may-pass .ensures)),
+      marking-more (inv .1) (omega arith) octets l (search needs) (record-lets _ _ _ _ _ l k n t whole (c .may-pass2 .ensures)),
+    )
 
 returns : tie.Need-returns Inv-loop μ-loop
 returns c =
-    letting-all _ _ _ _ (c .before .loop .inv) (omega arith)
+    record { downward = marking-all _ _ _ _ (c .before .loop .inv .0) (omega arith); upward = marking-all _ _ _ _ (c .before .loop .inv .1) (omega arith) }
 
 pub letting-spec : {M : Type 1} → statement M
 letting-spec =
@@ -37,10 +48,14 @@ letting-spec =
     (tie.spec
     Inv-loop
     μ-loop
-    (λ c κs. search needs)
     loop-holds
     (λ c. search needs)
     (λ c κs. search needs)
+    (λ c κs. search needs)
+    (λ c κs. search needs)
+    (λ c κs. search needs)
+    (λ c κs. search needs)
+    (λ c. search needs)
     (λ c κs. search needs)
     (λ c. search needs)
     (λ c κs. search needs)

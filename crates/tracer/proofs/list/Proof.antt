@@ -8,13 +8,16 @@ use Rattle.tracer.proofs.list.Tie as tie
 
 returns : tie.Need-returns
 returns c =
-    listed-by (stores (c .before .before .before .before .before .before .before .before .before .before .before .before .before .before .before .args .project .now) (c .before .before .before .before .before .before .before .before .before .before .before .before .before .before .before .args .own .now)) (c .before .before .before .before .before .before .before .before .before .before .before .before .before .before .before .args .site .now) (queryOf (c .before .before .before .before .before .before .before .before .before .before .before .before .before .before .before .args .start) (c .before .before .before .before .before .before .before .before .before .before .before .before .before .before .before .args .kind) (c .before .before .before .before .before .before .before .before .before .before .before .before .before .before .before .args .destination) (c .before .before .before .before .before .before .before .before .before .before .before .before .before .before .before .args .count)) (c .before .before .before .before .before .before .before .before .before .before .before .before .before .before .before .fits .start .fits) (c .before .before .before .before .before .before .before .before .before .before .letting .ensures) (c .before .before .before .before .before .before .before .before .before .letting2 .ensures) (c .before .before .before .before .before .before .spread .ensures) (c .before .before .list .ensures)
+    let spread = c .before .before .before .before .before .before in
+    let letting = spread .before .before .before .before .before in
+    let start = letting .before .before .before .before .before in
+    let marks = letting .letting .ensures in
+    listed-by (stores (start .args .project .now) (start .args .own .now)) (start .args .site .now) (queryOf (start .args .start) (start .args .kind) (start .args .destination) (start .args .count)) (start .fits .start .fits) (marks .downward) (marks .upward) (spread .spread .ensures) (c .before .before .list .ensures)
 
 pub list-spec : {M : Type 1} → statement M
 list-spec =
     tie.close
     (tie.spec
-    (λ c κs. search needs)
     (λ c κs. search needs)
     (λ c κs. search needs)
     (λ c κs. search needs)
