@@ -9,7 +9,7 @@ use lib.ListN.{length, getD, drop, set, length-set, replicate, getD-replicate}
 use lib.Seq.{getD-set-same, getD-set-other, ext-getD}
 use borrow.Author.Tests.{lt-leb, eq-eqb, ne-eqb}
 use Rattle.coupler.proofs.PassingLaws.{passes-iff}
-use Rattle.coupler.specs.Passing.{mayPass, passageOf, doesPass}
+use Rattle.coupler.specs.Passing.{isRuled, mayPass, passageOf, doesPass}
 use Rattle.coupler.specs.declared.Passage.the-variants.{NotFitted}
 use Rattle.coupler.specs.declared.Passage.{Passage}
 use Rattle.site.proofs.RecordLaws.{records-more, records-end, by-equal}
@@ -71,12 +71,26 @@ marking-all st group destination direction {site} {marks} {from} w h = record {
   each = λ n hn. sym (rw (records-end site from h) at (w .each n hn));
 }
 
--- the coupler's own test, with what a whole record says
-pub record-lets : (st : Stores) (group : Bool) (destination direction : ℕ) (octets : List ℕ) {line number : ℕ} {codes : List (List ℕ)} {table : List ℕ} {mark : Bool}
-    → line ≡ lineOf octets → codes ≡ codesOf octets → number ≡ tableNumber octets → table ≡ tableOf number st → length octets ≡ 12
-    → mark ≡ mayPass line codes table direction group destination → mark ≡ letsPass st group destination direction octets
+-- the coupler's own test, with what the record says: of a group ..
+pub group-asked : (st : Stores) (destination direction : ℕ) (octets : List ℕ) {group : Bool} {line number : ℕ} {codes : List (List ℕ)} {table : List ℕ} {mark : Bool}
+    → group ≡ true → line ≡ lineOf octets → codes ≡ codesOf octets → number ≡ tableNumber octets → table ≡ tableOf number st
+    → mark ≡ mayPass line codes table direction true destination → mark ≡ recordPasses st group destination direction octets
 unfolding recordPasses
-record-lets st group destination direction octets l k n t w m = m ∙ rw (l, k, t, n, w) refl
+group-asked st destination direction octets g l k n t m = m ∙ rw (g, l, k, t, n) refl
+
+-- .. and of an individual address, whatever the table
+pub individual-asked : (st : Stores) (destination direction : ℕ) (octets : List ℕ) {group : Bool} {line : ℕ} {codes : List (List ℕ)} (table : List ℕ) {mark : Bool}
+    → group ≡ false → line ≡ lineOf octets → codes ≡ codesOf octets → mark ≡ mayPass line codes table direction false destination
+    → mark ≡ recordPasses st group destination direction octets
+unfolding recordPasses mayPass isRuled
+individual-asked st destination direction octets table g l k m = m ∙ rw (g, l, k) refl
+
+pub two-marks : {a a′ b b′ : Bool} → a ≡ a′ → b ≡ b′ → (a ∷ b ∷ []) ≡ (a′ ∷ b′ ∷ [])
+two-marks x y = rw (x, y) refl
+
+pub lets-whole : (st : Stores) (group : Bool) (destination direction : ℕ) (octets : List ℕ) → length octets ≡ 12
+    → recordPasses st group destination direction octets ≡ letsPass st group destination direction octets
+lets-whole st group destination direction octets h = rw h refl
 
 -- the record that is found
 pub record Seeking (line : ℕ) (site : List ℕ) (found from : ℕ) : Type 0 where

@@ -10,6 +10,7 @@ ghost use Rattle.coupler.specs.Step.{judgedBy};
 ghost use Rattle.site.specs.Stores.{stores};
 ghost use Rattle.site.specs.Records.{recordsOf};
 ghost use Rattle.site.specs.WellFormed.{hasTable, recordTests, recordsTests, siteTests};
+ghost use Rattle.site.specs.Stages.{recordBothWays};
 ghost use Rattle.site.specs.Letting.{lineLetsPass, MarksBothWays, passageAt};
 use coupler::Judged;
 use coupler::Passage;
@@ -91,6 +92,31 @@ pub fn judge<'a>(site: &[u8], project: &'a [u8], own: &'a [u8]) -> Judged
     }
 }
 
+// Whether a record's coupler lets the telegram pass, main to sub and sub to main. Only a group asks for a table.
+fn lets_pass<'a>(
+    octets: &[u8],
+    project: &'a [u8],
+    own: &'a [u8],
+    group: bool,
+    destination: u16,
+) -> [bool; 2]
+    ensures { λ r. ⌜ r ≡ recordBothWays (stores (now (project .entry)) (now (own .entry))) group destination (now (octets .entry)) ⌝ }
+{
+    let line = records::line_of(octets);
+    let codes = records::codes_of(octets);
+    if group {
+        let table = stores::table_of(records::table_number(octets), project, own);
+        let down = coupler::may_pass(line, codes, table, 0, true, destination);
+        let up = coupler::may_pass(line, codes, table, 1, true, destination);
+        [down, up]
+    } else {
+        let none = &own[..0];
+        let down = coupler::may_pass(line, codes, none, 0, false, destination);
+        let up = coupler::may_pass(line, codes, none, 1, false, destination);
+        [down, up]
+    }
+}
+
 // For every line whether its coupler is fitted and lets the telegram pass, main to sub and sub to main:
 // each record is read once, for both directions.
 pub fn letting<'a>(
@@ -107,12 +133,10 @@ pub fn letting<'a>(
     let mut from = 0;
     while site.len() - from >= 12 {
         let octets = records::record_at(site, from);
-        let line = records::line_of(octets);
-        let codes = records::codes_of(octets);
-        let table = stores::table_of(records::table_number(octets), project, own);
-        let at = line as usize;
-        down[at] = coupler::may_pass(line, codes, table, 0, group, destination);
-        up[at] = coupler::may_pass(line, codes, table, 1, group, destination);
+        let line = records::line_of(octets) as usize;
+        let passes = lets_pass(octets, project, own, group, destination);
+        down[line] = passes[0];
+        up[line] = passes[1];
         from += 12;
     }
     BothWays { down, up }

@@ -1,10 +1,12 @@
 -- The loop's law `Marking`, of the marks of either direction: each record marks its line.
 use Prim.Native.Nat.{_-_}
+use mathlib.Core.Bool.{Bool, false}
+use mathlib.Core.List.{List}
 use mathlib.Core.Path.{refl, ap, _∙_}
 use native.Mathlib.Omega.{arith}
-use lib.ListN.{length}
+use lib.ListN.{length, getD}
 use borrow.Author.Needs.{needs}
-use Rattle.site.proofs.LettingLaws.{Marking, marking-none, marking-more, marking-all, record-lets}
+use Rattle.site.proofs.LettingLaws.{Marking, marking-none, marking-more, marking-all, lets-whole}
 use Rattle.site.proofs.RecordLaws.{record-whole}
 use Rattle.site.specs.Letting.{letsPass}
 use Rattle.site.specs.Stores.{stores}
@@ -25,17 +27,14 @@ loop-holds c =
 
 loop-again : tie.Need-loop-again Inv-loop μ-loop
 loop-again c =
-    let told = c .before .before in
-    let line = told .before .before .before in
-    let octets = line .before .record-at .ensures in
+    let found = c .before .before in
+    let octets = found .record-at .ensures in
     let whole = ap length octets ∙ record-whole _ _ (omega arith) in
-    let inv = line .before .before .before .loop .inv in
-    let l = line .line-of .ensures in
-    let k = told .before .before .codes-of .ensures in
-    let n = told .before .table-number .ensures in
-    let t = told .table-of .ensures .table .holds in (
-      marking-more (inv .0) (omega arith) octets l (search needs) (record-lets _ _ _ _ _ l k n t whole (c .before .may-pass .ensures)),
-      marking-more (inv .1) (omega arith) octets l (search needs) (record-lets _ _ _ _ _ l k n t whole (c .may-pass2 .ensures)),
+    let inv = found .before .before .loop .inv in
+    let line = c .before .line-of .ensures in
+    let passes = c .lets-pass .ensures in (
+      marking-more (inv .0) (omega arith) octets line (search needs) (ap (λ (l : List Bool). getD l 0 false) passes ∙ lets-whole _ _ _ _ _ whole),
+      marking-more (inv .1) (omega arith) octets line (search needs) (ap (λ (l : List Bool). getD l 1 false) passes ∙ lets-whole _ _ _ _ _ whole),
     )
 
 returns : tie.Need-returns Inv-loop μ-loop
@@ -52,13 +51,11 @@ letting-spec =
     (λ c. search needs)
     (λ c κs. search needs)
     (λ c κs. search needs)
-    (λ c κs. search needs)
-    (λ c κs. search needs)
-    (λ c κs. search needs)
     (λ c. search needs)
     (λ c κs. search needs)
     (λ c. search needs)
-    (λ c κs. search needs)
+    (λ c. search needs)
+    (λ c. search needs)
     (λ c. search needs)
     (λ c. search needs)
     (λ c. search needs)
