@@ -92,7 +92,8 @@ pub fn judge<'a>(site: &[u8], project: &'a [u8], own: &'a [u8]) -> Judged
     }
 }
 
-// Whether a record's coupler lets the telegram pass, main to sub and sub to main. Only a group asks for a table.
+// Whether a record's coupler lets the telegram pass, main to sub and sub to main. Only a group asks
+// for a table.
 fn lets_pass<'a>(
     octets: &[u8],
     project: &'a [u8],
