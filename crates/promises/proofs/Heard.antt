@@ -11,9 +11,9 @@ use lib.ListN.{drop}
 use borrow.Author.Tests.{eqb-true, not-true}
 use Rattle.cemi.proofs.LayoutLaws.{message-ranges}
 use Rattle.cemi.proofs.RoundTrip.{read-laid as cemi-read-laid, laid-read as cemi-laid-read, laid-payload as cemi-laid-payload}
-use Rattle.cemi.specs.Layout.{Unread, cemiOctets}
+use Rattle.cemi.specs.Layout.{cemiOctets}
 use Rattle.cemi.specs.Reading.{body, messageIn, informationIn}
-use Rattle.cemi.specs.Valid.{ValidInformation, ValidMessage}
+use Rattle.cemi.specs.Valid.{ValidMessage}
 use Rattle.cemi.specs.Writing.{messageInRange}
 use Rattle.cemi.specs.declared.CemiAnswer.the-variants.{Frame as Message-is, Refused as Message-not}
 use Rattle.cemi.specs.declared.CemiAnswer.{CemiAnswer}
@@ -25,6 +25,7 @@ use Rattle.frame.specs.Order.{Verdict, firstOf, answerBy, NoneOf, FirstIs, pass
 use Rattle.frame.specs.Valid.{Valid}
 use Rattle.frame.specs.declared.Meaning.{Meaning}
 use Rattle.frame.specs.declared.Refusal.{Refusal}
+use Rattle.promises.proofs.Demand2.{IsFrame, IsMessage, IsDatagram}
 use Rattle.octets.proofs.Octets.{octets-drop}
 use Rattle.octets.specs.Octets.{Octets, octetAt}
 use Rattle.routing.proofs.RoundTrip.{read-datagram, datagram-read, datagram-payload}
@@ -36,11 +37,11 @@ use Rattle.tp1.specs.Reading.{meaningIn, payloadIn, tp1Tests, readTp1}
 use Rattle.tp1.specs.declared.Tp1Answer.the-variants.{Frame, Refused}
 use Rattle.tp1.specs.declared.Tp1Answer.{Tp1Answer}
 
--- octets are the frame of a meaning and a payload: on TP1 their layout, from IP a datagram over an indication of theirs, whatever its
--- additional information and the bits that are not read
-pub data IsFrameOn (s : List ℕ) (m : Meaning) (p : List ℕ) : Bool → Type 0 where
-  on-tp1 : Valid m p → s ≡ tp1Octets m p → IsFrameOn s m p false
-  on-ip : (u : Unread) (information : List ℕ) → ValidInformation information → Valid m p → s ≡ datagram (cemiOctets u information (indication m) p) → IsFrameOn s m p true
+-- octets are the frame of a meaning and a payload, as demand 2 has it: on TP1 a frame, from IP a datagram over an indication of theirs, with
+-- some additional information
+abbrev pub IsFrameOn : List ℕ → Meaning → List ℕ → Bool → Type 0
+IsFrameOn s m p false = IsFrame s m p
+IsFrameOn s m p true = (information : List ℕ) × IsDatagram s (indication m) information p
 
 -- a coupler hears a frame: nothing of its settings, side, medium and room is refused, and the octets are that frame
 pub record Hears (k : Setting) (s : List ℕ) (room : ℕ) (m : Meaning) (p : List ℕ) : Type 0 where
@@ -67,7 +68,7 @@ is-indication x k e =
     let n : x .error ≡ false = not-true (x .error) (rw c at (r .mark)) in
     λ j. record { code = c j; error = n j; meaning = x .meaning }
 
-valid-indication : (m : Meaning) (p : List ℕ) → Valid m p → ValidMessage IndicationOnly (indication m) p
+pub valid-indication : (m : Meaning) (p : List ℕ) → Valid m p → ValidMessage IndicationOnly (indication m) p
 unfolding messageInRange
 valid-indication m p v = record { ranges = v .ranges; valid = v }
 
@@ -79,11 +80,14 @@ read-iff false s m p o = (to (readTp1 s) refl, from)
     to (Frame x) q e =
         let f = frame-one e in
         let w = read-laid s x o q in
-        subst (λ (y : Meaning). IsFrameOn s y p false) (f .0) (subst (λ (l : List ℕ). IsFrameOn s x l false) (f .1) (on-tp1 (w .valid) (w .layout)))
+        subst (λ (y : Meaning). IsFrameOn s y p false) (f .0) (subst (λ (l : List ℕ). IsFrameOn s x l false) (f .1) (record { valid = w .valid; layout = w .layout }))
     to (Refused r) q e = frame-apart e
 
     from : IsFrameOn s m p false → heardTp1 (readTp1 s) s ≡ frame m p
-    from (on-tp1 v e) = ap (λ (l : List ℕ). heardTp1 (readTp1 l) l) e ∙ ap (λ (a : Tp1Answer). heardTp1 a (tp1Octets m p)) (laid-read m p v) ∙ ap (frame m) (laid-payload m p)
+    from f =
+        ap (λ (l : List ℕ). heardTp1 (readTp1 l) l) (f .layout)
+        ∙ ap (λ (a : Tp1Answer). heardTp1 a (tp1Octets m p)) (laid-read m p (f .valid))
+        ∙ ap (frame m) (laid-payload m p)
 read-iff true s m p o = (to (readRouting s) refl, from)
   where
     to : (a : CemiAnswer) → readRouting s ≡ a → heardIp a s ≡ frame m p → IsFrameOn s m p true
@@ -92,16 +96,20 @@ read-iff true s m p o = (to (readRouting s) refl, from)
         let d = read-datagram s x o q in
         let w = cemi-read-laid IndicationOnly (drop 6 s) x (octets-drop 6 s o) (d .1) in
         let i : x ≡ indication (x .meaning) = is-indication x _ (w .valid .ranges) in
-        let l : s ≡ datagram (cemiOctets (w .unread) (informationIn (Message-is x) (drop 6 s)) (indication (x .meaning)) (routedPayload (Message-is x) s)) =
-        d .0 ∙ ap datagram (w .layout ∙ ap (λ (y : Message). cemiOctets (w .unread) (informationIn (Message-is x) (drop 6 s)) y (routedPayload (Message-is x) s)) i) in
+        let information : List ℕ = informationIn (Message-is x) (drop 6 s) in
+        let message : IsMessage IndicationOnly (drop 6 s) (indication (x .meaning)) information (routedPayload (Message-is x) s) =
+        subst (λ (y : Message). IsMessage IndicationOnly (drop 6 s) y information (routedPayload (Message-is x) s)) i
+        (record { unread = w .unread; informed = w .information; valid = w .valid; layout = w .layout }) in
         subst (λ (y : Meaning). IsFrameOn s y p true) (f .0)
-        (subst (λ (l : List ℕ). IsFrameOn s (x .meaning) l true) (f .1) (on-ip (w .unread) (informationIn (Message-is x) (drop 6 s)) (w .information) (w .valid .valid) l))
+        (subst (λ (l : List ℕ). IsFrameOn s (x .meaning) l true) (f .1) (information, record { indication = drop 6 s; message = message; layout = d .0 }))
     to (Message-not r) q e = frame-apart e
 
     from : IsFrameOn s m p true → heardIp (readRouting s) s ≡ frame m p
-    from (on-ip u i w v e) =
+    from (i, d) =
+        let u = d .message .unread in
         let o : List ℕ = cemiOctets u i (indication m) p in
-        let q : readRouting (datagram o) ≡ Message-is (indication m) = datagram-read o ∙ cemi-laid-read IndicationOnly u i (indication m) p w (valid-indication m p v) in
+        let e : s ≡ datagram o = d .layout ∙ ap datagram (d .message .layout) in
+        let q : readRouting (datagram o) ≡ Message-is (indication m) = datagram-read o ∙ cemi-laid-read IndicationOnly u i (indication m) p (d .message .informed) (d .message .valid) in
         ap (λ (l : List ℕ). heardIp (readRouting l) l) e
         ∙ ap (λ (a : CemiAnswer). heardIp a (datagram o)) q
         ∙ ap (frame m) (datagram-payload (indication m) o ∙ cemi-laid-payload u i (indication m) p)

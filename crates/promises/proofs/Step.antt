@@ -19,7 +19,6 @@ use Rattle.coupler.specs.Memory.{recalled, sideOf, rememberedOn}
 use Rattle.coupler.specs.Passing.{isOwn, mayPass}
 use Rattle.coupler.specs.Step.{Setting, stepTests, fromIp, toIp, Heard, frame, nothing, heard, isAllowed, repeats, isForwarded, acknowledgementBy, forwardedMeaning, indication, formOf, forwardedOctets, outcomeOf, sent, memoryAfter, Did}
 use Rattle.coupler.specs.declared.Acknowledgement.the-variants.{Silence, Acknowledged}
-use Rattle.coupler.specs.declared.Acknowledgement.{Acknowledgement}
 use Rattle.coupler.specs.declared.Memory.{Memory}
 use Rattle.coupler.specs.declared.Outcome.{Outcome}
 use Rattle.frame.proofs.Numbers.{refused-number}
@@ -34,7 +33,8 @@ use Rattle.octets.specs.Room.{over}
 use Rattle.routing.specs.Layout.{routingOctets}
 use Rattle.tp1.specs.Layout.{tp1Octets}
 use Rattle.cemi.specs.Layout.{plainBits, plain}
-use Rattle.promises.proofs.Heard.{IsFrameOn, on-tp1, on-ip, Hears, hears-iff, refuses-iff}
+use Rattle.cemi.specs.Valid.{ValidInformation}
+use Rattle.promises.proofs.Heard.{IsFrameOn, valid-indication, Hears, hears-iff, refuses-iff}
 
 -- the frame that the receiving side remembers
 abbrev pub rememberedBy : Setting → Memory → List ℕ
@@ -309,8 +309,11 @@ valid-onward x p v = record { ranges = forwarded-ranged x (length p) (v .ranges)
 
 frame-onward : (x : Meaning) (p : List ℕ) (b : Bool) → Valid x p → IsFrameOn (formOf b x p) (forwardedMeaning x) p b
 unfolding formOf routingOctets plain
-frame-onward x p true v = on-ip plainBits [] (record { few = omega arith; octets = λ i. omega arith }) (valid-onward x p v) refl
-frame-onward x p false v = on-tp1 (valid-onward x p v) refl
+frame-onward x p true v =
+    let informed : ValidInformation [] = record { few = omega arith; octets = λ i. omega arith } in
+    let valid = valid-indication (forwardedMeaning x) p (valid-onward x p v) in
+    ([], record { indication = plain (indication (forwardedMeaning x)) p; message = record { unread = plainBits; informed = informed; valid = valid; layout = refl }; layout = refl })
+frame-onward x p false v = record { valid = valid-onward x p v; layout = refl }
 
 pub forwards-the-frame : (k : Setting) (x : Meaning) (p : List ℕ) → Onward k x p (forwardedOctets k x p)
 unfolding formOf
