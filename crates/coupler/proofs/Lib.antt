@@ -2,5 +2,4 @@ pub mod StepLaws
 mod HearingLaws
 pub mod Refusals
 pub mod Promised
-pub mod PassingLaws
 pub mod Answers

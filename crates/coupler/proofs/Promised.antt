@@ -12,12 +12,12 @@ use lib.Seq.{take-at}
 use borrow.Author.Tests.{eqb-false, not-true, le-leb, ne-eqb}
 use Rattle.coupler.proofs.StepLaws.{forwarded-ranged, indication-ranged}
 use Rattle.coupler.specs.Memory.{kept, recalled, remembering, sideOf, rememberedOn}
-use Rattle.coupler.specs.Passing.{isOwn, mayPass}
 use Rattle.coupler.specs.Series.{Input, Done, doneBy, series, Follows}
-use Rattle.coupler.specs.Step.{Setting, fromIp, toIp, Heard, isAllowed, repeats, isForwarded, acknowledgementBy, forwardedMeaning, indication, formOf, forwardedOctets, refusedOutcome, outcomeOf, sent, memoryAfter, Did, frame, nothing}
+use Rattle.coupler.specs.Step.{Coupler, fromIp, toIp, Heard, isForItself, isLetThrough, isAllowed, repeats, isForwarded, acknowledgementBy, forwardedMeaning, indication, formOf, forwardedOctets, outcomeBy, sentBy, Did, frame, nothing}
 use Rattle.coupler.specs.declared.Acknowledgement.the-variants.{Silence, Acknowledged}
 use Rattle.coupler.specs.declared.Memory.{Memory}
 use Rattle.coupler.specs.declared.Remembered.{Remembered}
+use Rattle.coupler.specs.declared.Setting.{Setting}
 use Rattle.frame.specs.Valid.{Valid}
 use Rattle.frame.specs.declared.Meaning.{Meaning}
 use Rattle.frame.specs.declared.Refusal.{Refusal}
@@ -34,74 +34,71 @@ use Rattle.tp1.specs.Reading.{readTp1}
 use Rattle.tp1.specs.declared.Tp1Answer.the-variants.{Frame}
 use Rattle.cemi.specs.declared.CemiAnswer.the-variants.{Frame as Message-is}
 
--- "A coupler forwards exactly if address, settings and hop count allow it and the frame is no repetition." (`mayPass` holds of no frame
+-- "A coupler forwards exactly if address, settings and hop count allow it and the frame is no repetition." (`isLetThrough` holds of no frame
 -- for the coupler itself.)
-pub record Forwardable (k : Setting) (remembered : List ℕ) (m : Meaning) : Type 0 where
-  pub passes : mayPass (k .line) (k .codes) (k .table) (k .side) (m .group) (m .destination) ≡ true
+pub record Forwardable (k : Coupler) (remembered s : List ℕ) (m : Meaning) : Type 0 where
+  pub passes : isLetThrough k m ≡ true
   pub counted : m .count ≡ 0 → ⊥
-  pub new : repeats k remembered m ≡ false
+  pub new : repeats k remembered s ≡ false
 
 -- accepted, and let through
-abbrev pub Forwards : Setting → List ℕ → Heard → Type 0
-Forwards k remembered (frame m p) = Forwardable k remembered m
-Forwards k remembered (nothing r) = ⊥
+abbrev pub Forwards : Coupler → List ℕ → List ℕ → Heard → Type 0
+Forwards k remembered s (frame m p) = Forwardable k remembered s m
+Forwards k remembered s (nothing r) = ⊥
 
-some-octets : (k : Setting) (m : Meaning) (p : List ℕ) → length (forwardedOctets k m p) ≡ 0 → ⊥
+some-octets : (k : Coupler) (m : Meaning) (p : List ℕ) → length (forwardedOctets k m p) ≡ 0 → ⊥
 unfolding formOf
 some-octets k m p = go (toIp k)
   where
-    go : (b : Bool) → length (cond b (routingOctets (indication (forwardedMeaning m)) p) (tp1Octets (forwardedMeaning m) p)) ≡ 0 → ⊥
-    go true e = omega (arith, length-routing (indication (forwardedMeaning m)) p)
-    go false e = omega (arith, length-octets (forwardedMeaning m) p)
+    go : (b : Bool) → length (cond b (routingOctets (indication (forwardedMeaning (k .setting) m)) p) (tp1Octets (forwardedMeaning (k .setting) m) p)) ≡ 0 → ⊥
+    go true e = omega (arith, length-routing (indication (forwardedMeaning (k .setting) m)) p)
+    go false e = omega (arith, length-octets (forwardedMeaning (k .setting) m) p)
 
-pub forwardable-iff : (k : Setting) (remembered : List ℕ) (m : Meaning) → isForwarded k (repeats k remembered m) m ≡ true ↔ Forwardable k remembered m
-forwardable-iff k remembered m = (
-  (λ e.
-      let a = and-true (isAllowed k m) (not (repeats k remembered m)) e in
-      let q = and-true (mayPass (k .line) (k .codes) (k .table) (k .side) (m .group) (m .destination)) (not (eqb (m .count) 0)) (a .0) in
-      record { passes = q .0; counted = eqb-false (m .count) 0 (not-true (eqb (m .count) 0) (q .1)); new = not-true (repeats k remembered m) (a .1) }),
-  (λ f. rw (f .passes, ne-eqb (m .count) 0 (f .counted), f .new)),
-)
+module _ (k : Coupler) (remembered s : List ℕ) where
+  pub forwardable-iff : (m : Meaning) → isForwarded k (repeats k remembered s) m ≡ true ↔ Forwardable k remembered s m
+  forwardable-iff m = (
+    (λ e.
+        let a = and-true (isAllowed k m) (not (repeats k remembered s)) e in
+        let q = and-true (isLetThrough k m) (not (eqb (m .count) 0)) (a .0) in
+        record { passes = q .0; counted = eqb-false (m .count) 0 (not-true (eqb (m .count) 0) (q .1)); new = not-true (repeats k remembered s) (a .1) }),
+    (λ f. rw (f .passes, ne-eqb (m .count) 0 (f .counted), f .new)),
+  )
 
-pub forwarded-iff : (k : Setting) (remembered : List ℕ) (h : Heard) → (outcomeOf k remembered h .forwarded ≡ 0 → ⊥) ↔ Forwards k remembered h
-forwarded-iff k remembered (frame m p) = (go (isForwarded k (repeats k remembered m) m) refl, λ f e. some-octets k m p (rw (forwardable-iff k remembered m .1 f) at e))
-  where
-    go : (b : Bool) → isForwarded k (repeats k remembered m) m ≡ b → (length (cond b (forwardedOctets k m p) []) ≡ 0 → ⊥) → Forwardable k remembered m
-    go true e n = forwardable-iff k remembered m .0 e
-    go false e n = absurd (n refl)
-forwarded-iff k remembered (nothing r) = ((λ n. absurd (n refl)), λ f. absurd f)
+  pub forwarded-iff : (h : Heard) → (outcomeBy k remembered s h .forwarded ≡ 0 → ⊥) ↔ Forwards k remembered s h
+  forwarded-iff (frame m p) = (go (isForwarded k (repeats k remembered s) m) refl, λ f e. some-octets k m p (rw (forwardable-iff m .1 f) at e))
+    where
+      go : (b : Bool) → isForwarded k (repeats k remembered s) m ≡ b → (length (cond b (forwardedOctets k m p) []) ≡ 0 → ⊥) → Forwardable k remembered s m
+      go true e n = forwardable-iff m .0 e
+      go false e n = absurd (n refl)
+  forwarded-iff (nothing r) = ((λ n. absurd (n refl)), λ f. absurd f)
 
--- what is sent is the layout of the meaning with the count by the hop rule and first sending
-pub sent-is : (k : Setting) (remembered : List ℕ) (m : Meaning) (p : List ℕ) → Forwardable k remembered m → sent k remembered (frame m p) ≡ forwardedOctets k m p
-sent-is k remembered m p f = rw (forwardable-iff k remembered m .1 f)
+  -- what is sent is the layout of the meaning with the count by the hop rule and first sending
+  pub sent-is : (m : Meaning) (p : List ℕ) → Forwardable k remembered s m → sentBy k remembered s (frame m p) ≡ forwardedOctets k m p
+  sent-is m p f = rw (forwardable-iff m .1 f)
 
 -- and reads back, by the reader of its medium, as just that
-forwarded-valid : (m : Meaning) (p : List ℕ) → Valid m p → Valid (forwardedMeaning m) p
-forwarded-valid m p v = record { ranges = forwarded-ranged m (length p) (v .ranges); source = v .source; destination = v .destination; octets = v .octets }
+forwarded-valid : (k : Setting) (m : Meaning) (p : List ℕ) → Valid m p → Valid (forwardedMeaning k m) p
+forwarded-valid k m p v = record { ranges = forwarded-ranged k m (length p) (v .ranges); source = v .source; destination = v .destination; octets = v .octets }
 
-pub sent-reads-tp1 : (k : Setting) (m : Meaning) (p : List ℕ) → Valid m p → toIp k ≡ false → readTp1 (forwardedOctets k m p) ≡ Frame (forwardedMeaning m)
+pub sent-reads-tp1 : (k : Coupler) (m : Meaning) (p : List ℕ) → Valid m p → toIp k ≡ false → readTp1 (forwardedOctets k m p) ≡ Frame (forwardedMeaning (k .setting) m)
 unfolding formOf
-sent-reads-tp1 k m p v e = rw e (laid-read (forwardedMeaning m) p (forwarded-valid m p v))
+sent-reads-tp1 k m p v e = rw e (laid-read (forwardedMeaning (k .setting) m) p (forwarded-valid (k .setting) m p v))
 
-pub sent-reads-ip : (k : Setting) (m : Meaning) (p : List ℕ) → Valid m p → toIp k ≡ true → readRouting (forwardedOctets k m p) ≡ Message-is (indication (forwardedMeaning m))
+pub sent-reads-ip : (k : Coupler) (m : Meaning) (p : List ℕ) → Valid m p → toIp k ≡ true → readRouting (forwardedOctets k m p) ≡ Message-is (indication (forwardedMeaning (k .setting) m))
 unfolding formOf
-sent-reads-ip k m p v e = rw e (routing-read (indication (forwardedMeaning m)) p (record { ranges = indication-ranged m (length p) (v .ranges); valid = forwarded-valid m p v }))
+sent-reads-ip k m p v e =
+    rw e (routing-read (indication (forwardedMeaning (k .setting) m)) p (record { ranges = indication-ranged (k .setting) m (length p) (v .ranges); valid = forwarded-valid (k .setting) m p v }))
 
 -- "A TP1 frame gets CCh exactly if it is for the coupler itself or, repetition or not, its address, codes and count allow forwarding"
-pub acknowledged-iff : (k : Setting) (remembered : List ℕ) (m : Meaning) (p : List ℕ) → outcomeOf k remembered (frame m p) .acknowledgement ≡ Acknowledged
-    ↔ ((fromIp k ≡ false) × (isOwn (k .line) (m .group) (m .destination) || isAllowed k m ≡ true))
+pub acknowledged-iff : (k : Coupler) (remembered s : List ℕ) (m : Meaning) (p : List ℕ) → outcomeBy k remembered s (frame m p) .acknowledgement ≡ Acknowledged
+    ↔ ((fromIp k ≡ false) × (isForItself k m || isAllowed k m ≡ true))
 unfolding acknowledgementBy
-acknowledged-iff k remembered m p = go (not (fromIp k)) (isOwn (k .line) (m .group) (m .destination) || isAllowed k m) refl
+acknowledged-iff k remembered s m p = go (not (fromIp k)) (isForItself k m || isAllowed k m) refl
   where
     go : (a b : Bool) → not (fromIp k) ≡ a → cond (a && b) Acknowledged Silence ≡ Acknowledged ↔ ((fromIp k ≡ false) × (b ≡ true))
     go true true e = ((λ x. (not-true (fromIp k) e, refl)), λ x. refl)
     go true false e = ((λ x. let z : _≡_ {A = ℕ} 0 1 = cc in absurd (omega arith)), λ x. let z : _≡_ {A = ℕ} 0 1 = cc (x .1) in absurd (omega arith))
     go false b e = ((λ x. let z : _≡_ {A = ℕ} 0 1 = cc in absurd (omega arith)), λ x. let z : _≡_ {A = ℕ} 0 1 = cc (x .0) in absurd (omega arith))
-
--- a refused frame is neither acknowledged nor forwarded, and changes no memory
-pub refused-nothing : (k : Setting) (remembered : List ℕ) (m : Memory) (s : List ℕ) (r : Refusal)
-    → (outcomeOf k remembered (nothing r) ≡ refusedOutcome r) × ((sent k remembered (nothing r) ≡ []) × (memoryAfter k m s (nothing r) ≡ m))
-refused-nothing k remembered m s r = (refl, (refl, refl))
 
 -- "Afterwards the accepted frame is the remembered one": what its side recalls then is the frame, and the other side recalls what it did
 
@@ -119,7 +116,7 @@ remembers-sub m s n k = (recalls (m .sub) s n k, refl)
 
 -- a series of steps, by value or in place, is the fold
 
-done-one : (m : Memory) (i : Input) (d : Done) → Did (i .setting) m (i .octets) (i .room) (d .outcome) (d .memory) (d .room) → d ≡ doneBy m i
+done-one : (m : Memory) (i : Input) (d : Done) → Did (i .coupler) m (i .octets) (i .room) (d .outcome) (d .memory) (d .room) → d ≡ doneBy m i
 done-one m i d x = λ j. record { outcome = x .handed .outcome j; memory = x .memory j; room = x .handed .left j }
 
 pub follows-series : (m : Memory) (is : List Input) (ds : List Done) → Follows m is ds → ds ≡ series m is

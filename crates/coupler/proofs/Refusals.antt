@@ -10,10 +10,12 @@ use lib.Dec.{ltb, eqb}
 use lib.ListN.{length, take, drop}
 use borrow.Author.Tests.{eqb-false}
 use Rattle.cemi.specs.declared.CemiAnswer.{CemiAnswer}
-use Rattle.coupler.specs.Settings.{areCodes, tableFits}
-use Rattle.coupler.specs.Step.{Setting, settingTests, fromIp, Heard, heardTp1, heardIp, readBy, after, heard, outcomeOf, frame, nothing}
+use Rattle.passing.specs.Settings.{areCodes, tableFits}
+use Rattle.coupler.specs.Step.{Coupler, settingTests, fromIp, Heard, heardTp1, heardIp, readBy, after, heard, outcomeBy, frame, nothing}
 use Rattle.frame.proofs.Numbers.{refused-number, number-apart}
-use Rattle.frame.specs.Order.{Test, Verdict, firstOf, answerBy, NoneOf, _gives_, pass, refuse}
+use Rattle.frame.specs.Order.{Test, firstOf, answerBy, NoneOf, _gives_}
+use Rattle.frame.specs.declared.Verdict.the-variants.{Fine, Refuse}
+use Rattle.frame.specs.declared.Verdict.{Verdict}
 use Rattle.frame.specs.Refusals.{number}
 use Rattle.frame.specs.declared.Meaning.{Meaning}
 use Rattle.frame.specs.declared.Refusal.the-variants.{SmallRoom, OutOfRange, WrongSetting, NoTable}
@@ -34,7 +36,7 @@ frame-refused : (m : Meaning) (p : List ℕ) (r : Refusal) → nothing r ≡ fra
 frame-refused m p r e = let z : _≡_ {A = ℕ} 0 1 = cc in absurd (omega arith)
 
 -- what no test gives is never given
-never : (ts : List Test) (r : Refusal) → givesNot ts r ≡ true → firstOf ts ≡ refuse r → ⊥
+never : (ts : List Test) (r : Refusal) → givesNot ts r ≡ true → firstOf ts ≡ Refuse r → ⊥
 never ts r g e =
     let h : false ≡ true = once-iff ts [] false r g refl .0 (first-refused ts (false gives r ∷ []) r e) .1 in
     let z : _≡_ {A = ℕ} 0 1 = cc in
@@ -57,17 +59,17 @@ never-read b s r g h e = by b e
 
 -- the settings' word, then the reader's: an answer by a verdict
 after-answer : (v : Verdict) (h : Heard) → after v h ≡ answerBy nothing h v
-after-answer pass h = refl
-after-answer (refuse r) h = refl
+after-answer Fine h = refl
+after-answer (Refuse r) h = refl
 
 behind-iff : (ts : List Test) (h : Heard) (r : Refusal) → givesNot ts r ≡ true → answerBy nothing h (firstOf ts) ≡ nothing r ↔ (NoneOf ts × (h ≡ nothing r))
 behind-iff ts h r g = (go (firstOf ts) refl, λ x. ap (answerBy nothing h) (passed-iff ts .1 (x .0)) ∙ x .1)
   where
     go : (v : Verdict) → firstOf ts ≡ v → answerBy nothing h v ≡ nothing r → NoneOf ts × (h ≡ nothing r)
-    go pass q e = (passed-iff ts .0 q, e)
-    go (refuse x) q e = absurd (never ts r g (q ∙ ap refuse (refusal-apart x r e)))
+    go Fine q e = (passed-iff ts .0 q, e)
+    go (Refuse x) q e = absurd (never ts r g (q ∙ ap Refuse (refusal-apart x r e)))
 
-module _ (k : Setting) (s : List ℕ) (room : ℕ) where
+module _ (k : Coupler) (s : List ℕ) (room : ℕ) where
   answered : heard k s room ≡ answerBy nothing (readBy (fromIp k) s) (firstOf (settingTests k room))
   unfolding heard
   answered = after-answer (firstOf (settingTests k room)) (readBy (fromIp k) s)
@@ -85,23 +87,23 @@ module _ (k : Setting) (s : List ℕ) (room : ℕ) where
   once-at ts us b r e g h i j = rw (answered ∙ ap (λ (l : List Test). answerBy nothing (readBy (fromIp k) s) (firstOf l)) e) (refusal-once nothing refusal-apart ts us b (readBy (fromIp k) s) r (never-read (fromIp k) s r i j) g h)
 
   -- "Order: 15, 18 .., 14 .., 13 (room below 272)": each exactly if its test is true and none before it is
-  pub refused-15 : heard k s room ≡ nothing WrongSetting ↔ (eqb (k .line) 0 || not (areCodes (k .codes)) ≡ true)
+  pub refused-15 : heard k s room ≡ nothing WrongSetting ↔ (eqb (k .setting .line) 0 || not (areCodes (k .codes)) ≡ true)
   refused-15 = let w = once-at [] (drop 1 (settingTests k room)) _ WrongSetting refl refl refl refl refl in ((λ e. w .0 e .1), λ x. w .1 (tt, x))
 
   pub refused-18 : heard k s room ≡ nothing NoTable ↔ (NoneOf (take 1 (settingTests k room)) × (not (tableFits (k .codes) (length (k .table))) ≡ true))
   refused-18 = once-at (take 1 (settingTests k room)) (drop 2 (settingTests k room)) _ NoTable refl refl refl refl refl
 
-  pub refused-14 : heard k s room ≡ nothing OutOfRange ↔ (NoneOf (take 2 (settingTests k room)) × (not (ltb (k .side) 2 && ltb (k .medium) 2) ≡ true))
+  pub refused-14 : heard k s room ≡ nothing OutOfRange ↔ (NoneOf (take 2 (settingTests k room)) × (not (ltb (k .setting .side) 2 && ltb (k .setting .medium) 2) ≡ true))
   refused-14 = once-at (take 2 (settingTests k room)) (drop 3 (settingTests k room)) _ OutOfRange refl refl refl refl refl
 
   pub refused-13 : heard k s room ≡ nothing SmallRoom ↔ (NoneOf (take 3 (settingTests k room)) × (ltb room 272 ≡ true))
   refused-13 = once-at (take 3 (settingTests k room)) [] _ SmallRoom refl refl refl refl refl
 
 -- the outcome's number is a refusal's exactly if that refusal was heard, and 0 exactly if none was
-pub number-iff : (k : Setting) (remembered : List ℕ) (h : Heard) (r : Refusal) → outcomeOf k remembered h .number ≡ number r ↔ (h ≡ nothing r)
-number-iff k remembered (frame m p) r = ((λ e. absurd (eqb-false (number r) 0 (refused-number r) (sym e))), λ e. absurd (frame-refused m p r (sym e)))
-number-iff k remembered (nothing q) r = ((λ e. ap nothing (number-apart q r e)), λ e. ap number (refusal-apart q r e))
+pub number-iff : (k : Coupler) (remembered s : List ℕ) (h : Heard) (r : Refusal) → outcomeBy k remembered s h .number ≡ number r ↔ (h ≡ nothing r)
+number-iff k remembered s (frame m p) r = ((λ e. absurd (eqb-false (number r) 0 (refused-number r) (sym e))), λ e. absurd (frame-refused m p r (sym e)))
+number-iff k remembered s (nothing q) r = ((λ e. ap nothing (number-apart q r e)), λ e. ap number (refusal-apart q r e))
 
-pub zero-iff : (k : Setting) (remembered : List ℕ) (h : Heard) → outcomeOf k remembered h .number ≡ 0 ↔ ((r : Refusal) → h ≡ nothing r → ⊥)
-zero-iff k remembered (frame m p) = ((λ e r z. frame-refused m p r (sym z)), λ f. refl)
-zero-iff k remembered (nothing r) = ((λ e. absurd (eqb-false (number r) 0 (refused-number r) e)), λ f. absurd (f r refl))
+pub zero-iff : (k : Coupler) (remembered s : List ℕ) (h : Heard) → outcomeBy k remembered s h .number ≡ 0 ↔ ((r : Refusal) → h ≡ nothing r → ⊥)
+zero-iff k remembered s (frame m p) = ((λ e r z. frame-refused m p r (sym z)), λ f. refl)
+zero-iff k remembered s (nothing r) = ((λ e. absurd (eqb-false (number r) 0 (refused-number r) e)), λ f. absurd (f r refl))

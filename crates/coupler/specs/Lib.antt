@@ -1,5 +1,4 @@
-pub mod Settings
-pub mod Passing
+pub mod Setting
 pub mod Memory
 pub mod Step
 pub mod Hearing

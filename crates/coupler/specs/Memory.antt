@@ -5,7 +5,6 @@ use mathlib.Core.Bool.{Bool, cond, not, _&&_, Bool·beq}
 use lib.ListN.{length, take, replicate}
 use lib.Dec.{leb, eqb}
 use Rattle.octets.specs.Room.{laid}
-use Rattle.frame.specs.declared.Meaning.{Meaning}
 use Rattle.tp1.specs.Reading.{meaningIn}
 use Rattle.coupler.specs.declared.Remembered.{Remembered}
 use Rattle.coupler.specs.declared.Memory.{Memory}
@@ -41,11 +40,12 @@ rememberedOn m side frame =
     record { main = remembering (m .main) frame; sub = m .sub }
     record { main = m .main; sub = remembering (m .sub) frame }
 
--- "An accepted frame marked repeated is a repetition if the remembered frame has the same source, destination and AT."
-unfoldable pub isRepetition : List ℕ → Meaning → Bool
-isRepetition frame m =
-    not (m .first)
-    && not (eqb (length frame) 0)
-    && eqb (meaningIn frame .source) (m .source)
-    && eqb (meaningIn frame .destination) (m .destination)
-    && Bool·beq (meaningIn frame .group) (m .group)
+-- "An accepted frame marked repeated is a repetition if the remembered frame has the same source, destination and AT.": the remembered
+-- frame, and the octets received
+unfoldable pub isRepetition : List ℕ → List ℕ → Bool
+isRepetition before s =
+    not (meaningIn s .first)
+    && not (eqb (length before) 0)
+    && eqb (meaningIn before .source) (meaningIn s .source)
+    && eqb (meaningIn before .destination) (meaningIn s .destination)
+    && Bool·beq (meaningIn before .group) (meaningIn s .group)

@@ -6,10 +6,10 @@ use Rattle.octets.specs.Room.{over}
 use Rattle.coupler.specs.declared.Outcome.{Outcome}
 use Rattle.coupler.specs.declared.Memory.{Memory}
 use Rattle.coupler.specs.Memory.{recalled, sideOf}
-use Rattle.coupler.specs.Step.{Setting, Did, heard, outcomeOf, sent, memoryAfter}
+use Rattle.coupler.specs.Step.{Coupler, Did, heard, outcomeOf, sent, memoryAfter}
 
 pub record Input : Type 0 where
-  pub setting : Setting
+  pub coupler : Coupler
   pub octets : List ℕ
   pub room : List ℕ
 
@@ -21,12 +21,12 @@ pub record Done : Type 0 where
 
 abbrev pub doneBy : Memory → Input → Done
 doneBy m i =
-    let h = heard (i .setting) (i .octets) (length (i .room)) in
-    let remembered = recalled (sideOf m (i .setting .side)) in
+    let k = i .coupler in
+    let remembered = recalled (sideOf m (k .setting .side)) in
     record {
-      outcome = outcomeOf (i .setting) remembered h;
-      memory = memoryAfter (i .setting) m (i .octets) h;
-      room = over (sent (i .setting) remembered h) (i .room);
+      outcome = outcomeOf k remembered (i .octets) (length (i .room));
+      memory = memoryAfter k m (i .octets) (heard k (i .octets) (length (i .room)));
+      room = over (sent k remembered (i .octets) (length (i .room))) (i .room);
     }
 
 abbrev pub series : Memory → List Input → List Done
@@ -38,4 +38,4 @@ abbrev pub Follows : Memory → List Input → List Done → Type 0
 Follows m [] [] = Unit {0}
 Follows m [] (d ∷ ds) = ⊥
 Follows m (i ∷ is) [] = ⊥
-Follows m (i ∷ is) (d ∷ ds) = Did (i .setting) m (i .octets) (i .room) (d .outcome) (d .memory) (d .room) × Follows (d .memory) is ds
+Follows m (i ∷ is) (d ∷ ds) = Did (i .coupler) m (i .octets) (i .room) (d .outcome) (d .memory) (d .room) × Follows (d .memory) is ds

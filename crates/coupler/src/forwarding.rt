@@ -1,6 +1,6 @@
 // What becomes of a frame that was read: refused, acknowledged, forwarded.
 ghost use mathlib.Core.Path.{_≡_};
-ghost use mathlib.Core.Bool.{true, false, _&&_};
+ghost use mathlib.Core.Bool.{true, not, _&&_};
 ghost use Prim.Native.Nat.{_≤_};
 ghost use lib.ListN.{length};
 ghost use Rattle.octets.specs.Room.{over};
@@ -9,24 +9,31 @@ ghost use Rattle.frame.specs.Valid.{inRange};
 ghost use Rattle.routing.specs.Reading.{readRouting};
 ghost use Rattle.coupler.specs.Memory.{isRepetition};
 ghost use Rattle.coupler.specs.Hearing.{meaningOnly, answerOn, payloadOn};
-ghost use Rattle.coupler.specs.Step.{settingOf, settingTests, judgedBy, fromIp, readBy, isAllowed, acknowledgementBy, forwardedMeaning, formOf, refusedOutcome, HandedOn};
-ghost use Rattle.coupler.specs.Stages.{putSize, Sent, PassedOn};
+ghost use Rattle.coupler.specs.Step.{couplerBy, settingTests, fromIp, readBy, kindOf, isAllowed, acknowledgementBy, forwardedMeaning, formOf, refusedOutcome};
+ghost use Rattle.coupler.specs.Stages.{putSize, Sent, PassedOn, HandedBy};
 use crate::Acknowledgement;
-use crate::Judged;
 use crate::Outcome;
+use crate::Setting;
 use cemi::CemiAnswer;
 use cemi::Codes;
 use cemi::Message;
 use frame::Meaning;
 use frame::Refusal;
+use frame::Verdict;
 use frame::Written;
-use routing::Header;
 use tp1::Tp1Answer;
 
 const ROUTING_INDICATION: u16 = 0x0530;
 
-pub(crate) fn refused(refusal: Refusal) -> Outcome
-    ensures { λ r. ⌜ r ≡ refusedOutcome refusal ⌝ }
+// "On a refusal: its number, none, not, 0."
+pub(crate) fn refused(
+    setting: Setting,
+    codes: [[u8; 4]; 2],
+    table: &[u8],
+    octets: &[u8],
+    refusal: Refusal,
+) -> Outcome
+    ensures { λ r. ⌜ r ≡ refusedOutcome (couplerBy setting codes (now (table .entry))) (now (octets .entry)) refusal ⌝ }
 {
     Outcome {
         number: refusal.number(),
@@ -37,48 +44,47 @@ pub(crate) fn refused(refusal: Refusal) -> Outcome
 }
 
 // The refusals that stand before the reader's: 15, 18, 14, 13.
-pub(crate) fn judge(
-    line: u8,
-    codes: [[u8; 4]; 2],
-    table: &[u8],
-    side: u8,
-    medium: u8,
-    room: usize,
-) -> Judged
-    ensures { λ r. ⌜ r ≡ judgedBy (firstOf (settingTests (settingOf line codes (now (table .entry)) side medium) room)) ⌝ }
+pub(crate) fn judge(setting: Setting, codes: [[u8; 4]; 2], table: &[u8], room: usize) -> Verdict
+    ensures { λ r. ⌜ r ≡ firstOf (settingTests (couplerBy setting codes (now (table .entry))) room) ⌝ }
 {
-    let allowed = crate::settings::are_codes(codes);
-    let wrong = (line == 0) | !allowed;
+    let allowed = passing::settings::are_codes(codes);
+    let wrong = (setting.line == 0) | !allowed;
     if wrong {
-        return Judged::Refused(Refusal::WrongSetting);
+        return Verdict::Refuse(Refusal::WrongSetting);
     }
-    if crate::settings::table_fits(codes, table.len()) {
-        let named = (side < 2) & (medium < 2);
+    if passing::settings::table_fits(codes, table.len()) {
+        let named = (setting.side < 2) & (setting.medium < 2);
         if named {
             if room < 272 {
-                return Judged::Refused(Refusal::SmallRoom);
+                return Verdict::Refuse(Refusal::SmallRoom);
             }
-            Judged::Fine
+            Verdict::Fine
         } else {
-            Judged::Refused(Refusal::OutOfRange)
+            Verdict::Refuse(Refusal::OutOfRange)
         }
     } else {
-        Judged::Refused(Refusal::NoTable)
+        Verdict::Refuse(Refusal::NoTable)
     }
 }
 
-// Address, codes and count allow forwarding.
-fn is_allowed(
-    line: u8,
-    codes: [[u8; 4]; 2],
-    table: &[u8],
-    side: u8,
-    medium: u8,
-    meaning: Meaning,
-) -> bool
-    ensures { λ r. ⌜ r ≡ isAllowed (settingOf line codes (now (table .entry)) side medium) meaning ⌝ }
+fn kind_of(meaning: Meaning) -> u8
+    ensures { λ r. ⌜ r ≡ kindOf meaning ⌝ }
 {
-    let passes = crate::may_pass(line, codes, table, side, meaning.group, meaning.destination);
+    octets::flag(meaning.group, 1)
+}
+
+// Address, codes and count allow forwarding.
+fn is_allowed(setting: Setting, codes: [[u8; 4]; 2], table: &[u8], meaning: Meaning) -> bool
+    ensures { λ r. ⌜ r ≡ isAllowed (couplerBy setting codes (now (table .entry))) meaning ⌝ }
+{
+    let passes = passing::may_pass(
+        setting.line,
+        codes,
+        table,
+        setting.side,
+        kind_of(meaning),
+        meaning.destination,
+    );
     passes & (meaning.count != 0)
 }
 
@@ -94,8 +100,8 @@ fn acknowledgement(ip: bool, own: bool, allowed: bool) -> Acknowledgement
     }
 }
 
-fn forwarded_meaning(meaning: Meaning) -> Meaning
-    ensures { λ r. ⌜ r ≡ forwardedMeaning meaning ⌝ }
+fn forwarded_meaning(setting: Setting, meaning: Meaning) -> Meaning
+    ensures { λ r. ⌜ r ≡ forwardedMeaning setting meaning ⌝ }
 {
     Meaning {
         extended: meaning.extended,
@@ -104,7 +110,7 @@ fn forwarded_meaning(meaning: Meaning) -> Meaning
         source: meaning.source,
         group: meaning.group,
         destination: meaning.destination,
-        count: crate::hopped_count(meaning.count),
+        count: crate::hopped(setting, meaning.count),
     }
 }
 
@@ -118,11 +124,11 @@ fn put_size(written: Written) -> usize
 }
 
 // Lays the forwarded frame over the room, in the form of the medium that it goes out by.
-fn forward(ip: bool, meaning: Meaning, payload: &[u8], room: &mut [u8]) -> usize
+fn forward(ip: bool, setting: Setting, meaning: Meaning, payload: &[u8], room: &mut [u8]) -> usize
     requires { ⌜ (inRange meaning (length (now payload)) ≡ true) × (272 ≤ length (now room)) ⌝ }
-    ensures { λ r. ⌜ Sent (formOf ip meaning (now (payload .entry))) (now (room .entry)) r (now (room .exit)) ⌝ }
+    ensures { λ r. ⌜ Sent (formOf ip setting meaning (now (payload .entry))) (now (room .entry)) r (now (room .exit)) ⌝ }
 {
-    let meaning = forwarded_meaning(meaning);
+    let meaning = forwarded_meaning(setting, meaning);
     if ip {
         let message = Message {
             code: 0x29,
@@ -136,27 +142,25 @@ fn forward(ip: bool, meaning: Meaning, payload: &[u8], room: &mut [u8]) -> usize
 }
 
 fn pass_on(
-    line: u8,
+    setting: Setting,
     codes: [[u8; 4]; 2],
     table: &[u8],
-    side: u8,
-    medium: u8,
     repetition: bool,
     meaning: Meaning,
     payload: &[u8],
     room: &mut [u8],
 ) -> Outcome
     requires { ⌜ (inRange meaning (length (now payload)) ≡ true) × (272 ≤ length (now room)) ⌝ }
-    ensures { λ r. ⌜ PassedOn (settingOf line codes (now (table .entry)) side medium) repetition meaning (now (payload .entry)) (now (room .entry)) r (now (room .exit)) ⌝ }
+    ensures { λ r. ⌜ PassedOn (couplerBy setting codes (now (table .entry))) repetition meaning (now (payload .entry)) (now (room .entry)) r (now (room .exit)) ⌝ }
 {
-    let own = crate::passing::is_own(line, meaning.group, meaning.destination);
-    let allowed = is_allowed(line, codes, table, side, medium, meaning);
-    let from_ip = (side == 0) & (medium == 1);
+    let own = passing::is_own(setting.line, kind_of(meaning), meaning.destination);
+    let allowed = is_allowed(setting, codes, table, meaning);
+    let from_ip = (setting.side == 0) & (setting.medium == 1);
     let acknowledgement = acknowledgement(from_ip, own, allowed);
     let forwards = allowed & !repetition;
     if forwards {
-        let ip = (side == 1) & (medium == 1);
-        let forwarded = forward(ip, meaning, payload, room);
+        let ip = (setting.side == 1) & (setting.medium == 1);
+        let forwarded = forward(ip, setting, meaning, payload, room);
         Outcome {
             number: 0,
             acknowledgement,
@@ -173,9 +177,10 @@ fn pass_on(
     }
 }
 
-fn is_repetition(remembered: &[u8], meaning: Meaning) -> bool
-    ensures { λ r. ⌜ r ≡ isRepetition (now (remembered .entry)) meaning ⌝ }
+fn is_repetition(remembered: &[u8], octets: &[u8]) -> bool
+    ensures { λ r. ⌜ r ≡ isRepetition (now (remembered .entry)) (now (octets .entry)) ⌝ }
 {
+    let meaning = tp1::meaning_in(octets);
     if meaning.first {
         return false;
     }
@@ -185,6 +190,16 @@ fn is_repetition(remembered: &[u8], meaning: Meaning) -> bool
         & (before.source == meaning.source)
         & (before.destination == meaning.destination)
         & (before.group == meaning.group)
+}
+
+// "IP has neither memory nor acknowledgement"
+fn repeats(ip: bool, remembered: &[u8], octets: &[u8]) -> bool
+    ensures { λ r. ⌜ r ≡ not ip && isRepetition (now (remembered .entry)) (now (octets .entry)) ⌝ }
+{
+    if ip {
+        return false;
+    }
+    is_repetition(remembered, octets)
 }
 
 fn meaning_only(answer: CemiAnswer) -> Tp1Answer
@@ -204,10 +219,10 @@ fn meaning_only(answer: CemiAnswer) -> Tp1Answer
 fn hear_datagram(octets: &[u8]) -> Tp1Answer
     ensures { λ r. ⌜ r ≡ meaningOnly (readRouting (now (octets .entry))) ⌝ }
 {
-    let header = routing::read_header(octets, ROUTING_INDICATION);
+    let header = knxnetip::read_header(octets, ROUTING_INDICATION);
     match header {
-        Header::Wrong(refusal) => Tp1Answer::Refused(refusal),
-        Header::Right => meaning_only(cemi::read(Codes::IndicationOnly, &octets[6..])),
+        Verdict::Refuse(refusal) => Tp1Answer::Refused(refusal),
+        Verdict::Fine => meaning_only(cemi::read(Codes::IndicationOnly, &octets[6..])),
     }
 }
 
@@ -240,36 +255,24 @@ fn payload_of(ip: bool, meaning: Meaning, octets: &[u8]) -> &[u8]
 
 // Heard and passed on by one call for both media, so that the compiler puts it in place.
 pub(crate) fn receive(
-    line: u8,
+    setting: Setting,
     codes: [[u8; 4]; 2],
     table: &[u8],
-    side: u8,
-    medium: u8,
     remembered: &[u8],
     octets: &[u8],
     room: &mut [u8],
 ) -> Outcome
     requires { ⌜ 272 ≤ length (now room) ⌝ }
-    ensures { λ r. ⌜ HandedOn (settingOf line codes (now (table .entry)) side medium) (now (remembered .entry)) (readBy (fromIp (settingOf line codes (now (table .entry)) side medium)) (now (octets .entry))) (now (room .entry)) r (now (room .exit)) ⌝ }
+    ensures { λ r. ⌜ HandedBy (couplerBy setting codes (now (table .entry))) (now (remembered .entry)) (now (octets .entry)) (readBy (fromIp (couplerBy setting codes (now (table .entry)))) (now (octets .entry))) (now (room .entry)) r (now (room .exit)) ⌝ }
 {
-    let ip = (side == 0) & (medium == 1);
+    let ip = (setting.side == 0) & (setting.medium == 1);
     let answer = hear(ip, octets);
     match answer {
-        Tp1Answer::Refused(refusal) => refused(refusal),
+        Tp1Answer::Refused(refusal) => refused(setting, codes, table, octets, refusal),
         Tp1Answer::Frame(meaning) => {
             let payload = payload_of(ip, meaning, octets);
-            let repetition = !ip & is_repetition(remembered, meaning);
-            pass_on(
-                line,
-                codes,
-                table,
-                side,
-                medium,
-                repetition,
-                meaning,
-                payload,
-                room,
-            )
+            let repetition = repeats(ip, remembered, octets);
+            pass_on(setting, codes, table, repetition, meaning, payload, room)
         }
     }
 }

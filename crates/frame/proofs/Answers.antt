@@ -8,10 +8,12 @@ use mathlib.Core.Path.{_≡_, refl, sym, ap, _∙_}
 use native.Mathlib.Omega.{arith}
 use lib.ListN.{getD}
 use Rattle.frame.proofs.Numbers.{number-listed, number-apart}
-use Rattle.frame.specs.Answers.{Numbered, accepted, refused, meaningValues, writtenNumbered}
+use Rattle.frame.specs.Answers.{Numbered, accepted, refused, meaningValues, writtenNumbered, verdictNumbered}
 use Rattle.frame.specs.Refusals.{number}
 use Rattle.frame.specs.declared.Meaning.{Meaning}
 use Rattle.frame.specs.declared.Refusal.{Refusal}
+use Rattle.frame.specs.declared.Verdict.the-variants.{Fine, Refuse}
+use Rattle.frame.specs.declared.Verdict.{Verdict}
 use Rattle.frame.specs.declared.Written.the-variants.{Put, Refused}
 use Rattle.frame.specs.declared.Written.{Written}
 use Rattle.octets.specs.Octets.{weigh}
@@ -91,3 +93,14 @@ written-split (Refused r) = refuses r refl
 
 pub written-tells : Tells Refused writtenNumbered
 written-tells = tells Put Refused (λ n. n ∷ []) writtenNumbered written-split (λ n. refl) (λ r. refl) (λ a b e. ap (λ (l : List ℕ). getD l 0 0) e)
+
+-- a verdict: where nothing is refused there are no values
+abbrev fine : Unit {0} → Verdict
+fine u = Fine
+
+verdict-split : (v : Verdict) → Split fine Refuse v
+verdict-split Fine = answers tt refl
+verdict-split (Refuse r) = refuses r refl
+
+pub verdict-tells : Tells Refuse verdictNumbered
+verdict-tells = tells fine Refuse (λ u. []) verdictNumbered verdict-split (λ u. refl) (λ r. refl) (λ u v e. refl)

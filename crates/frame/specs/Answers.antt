@@ -6,6 +6,8 @@ use Rattle.octets.specs.Octets.{weigh}
 use Rattle.frame.specs.Refusals.{number}
 use Rattle.frame.specs.declared.Meaning.{Meaning}
 use Rattle.frame.specs.declared.Refusal.{Refusal}
+use Rattle.frame.specs.declared.Verdict.the-variants.{Fine, Refuse}
+use Rattle.frame.specs.declared.Verdict.{Verdict}
 use Rattle.frame.specs.declared.Written.the-variants.{Put, Refused}
 use Rattle.frame.specs.declared.Written.{Written}
 
@@ -39,3 +41,8 @@ meaningValues m =
 abbrev pub writtenNumbered : Written → Numbered
 writtenNumbered (Put n) = accepted (n ∷ [])
 writtenNumbered (Refused r) = refused r
+
+-- a header, settings, or a site with its stores: nothing is refused, or the first refusal's number
+abbrev pub verdictNumbered : Verdict → Numbered
+verdictNumbered Fine = accepted []
+verdictNumbered (Refuse r) = refused r

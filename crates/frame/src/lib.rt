@@ -39,6 +39,12 @@ pub enum Refusal {
     NoTable,
 }
 
+// What tests in their order find: nothing to refuse, or the first refusal.
+pub enum Verdict {
+    Fine,
+    Refuse(Refusal),
+}
+
 // What a writer answers: how many octets of the room are the frame's, or why it wrote none.
 pub enum Written {
     Put(usize),

@@ -9,7 +9,9 @@ use lib.Dec.{ltb, eqb}
 use lib.ListN.{length, drop, List·getD-append}
 use lib.Seq.{getD-append-add}
 use borrow.Author.Tests.{ltb-true, ltb-false, eqb-true, eqb-false}
-use Rattle.frame.specs.Order.{Verdict, firstOf, pass, refuse}
+use Rattle.frame.specs.Order.{firstOf}
+use Rattle.frame.specs.declared.Verdict.the-variants.{Fine, Refuse}
+use Rattle.frame.specs.declared.Verdict.{Verdict}
 use Rattle.klumdray.proofs.TracerNumbers.{trace-told, trace-counted}
 use Rattle.klumdray.specs.Decoding.{listedLine, numberIn, linesIn, ListedAt, ListReads}
 use Rattle.klumdray.specs.Traces.{TracedThrough}
@@ -136,7 +138,7 @@ module _ (st : Stores) (site : List ℕ) (q : Query) {room : List ℕ} {answer :
   trace-list z = go (firstOf (traceTests st site q (length room))) refl
     where
       go : (v : Verdict) → firstOf (traceTests st site q (length room)) ≡ v → ListReads (crossingPasses st site q) (q .start) (q .count) answer room′
-      go pass e =
+      go Fine e =
           let r : room′ ≡ over (listed st site q) room = w .left ∙ ap (λ (v : Verdict). over (listBy st site q v) room) e in
           rw r (list-is (crossingPasses st site q) (q .start) (q .count) answer (drop (length (listed st site q)) room) (trace-counted st site q w e .0))
-      go (refuse r) e = absurd (trace-told st site q w .accepted .0 z r e)
+      go (Refuse r) e = absurd (trace-told st site q w .accepted .0 z r e)

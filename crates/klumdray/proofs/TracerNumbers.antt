@@ -16,7 +16,9 @@ use Rattle.coupler.specs.declared.Passage.the-variants.{Passes, NotFitted, OwnA
 use Rattle.frame.proofs.Numbers.{refused-number}
 use Rattle.frame.proofs.Order.{passed-iff}
 use Rattle.frame.specs.Answers.{Numbered}
-use Rattle.frame.specs.Order.{Verdict, firstOf, answerBy, pass, refuse}
+use Rattle.frame.specs.Order.{firstOf, answerBy}
+use Rattle.frame.specs.declared.Verdict.the-variants.{Fine, Refuse}
+use Rattle.frame.specs.declared.Verdict.{Verdict}
 use Rattle.frame.specs.Refusals.{number}
 use Rattle.frame.specs.declared.Refusal.{Refusal}
 use Rattle.klumdray.proofs.Bits.{Field, _holding_, packed, Fit, read-back, below}
@@ -93,30 +95,30 @@ module _ (t : Traced) (n : t .number ≤ 18) (l : t .lines ≤ 256) (f : t .forw
       let field = read-back (tracedFields t) (tracedNumber t) traced-fit traced-packed in
       rw (field 0 (omega arith), field 1 (omega arith), field 2 (omega arith))
 
-verdict-refused : (r : Refusal) → pass ≡ refuse r → ⊥
+verdict-refused : (r : Refusal) → Fine ≡ Refuse r → ⊥
 verdict-refused r e = let z : _≡_ {A = ℕ} 0 1 = cc in absurd (omega arith)
 
-verdict-apart : (q r : Refusal) → refuse q ≡ refuse r → q ≡ r
+verdict-apart : (q r : Refusal) → Refuse q ≡ Refuse r → q ≡ r
 verdict-apart q r e = cc
 
 module _ (st : Stores) (site : List ℕ) (q : Query) where
-  traced-answer : (v : Verdict) → Tells 40 tracedFrom (tracedNumber (tracedBy st site q v)) (tracedNumbered (tracedBy st site q v)) (λ r. v ≡ refuse r)
+  traced-answer : (v : Verdict) → Tells 40 tracedFrom (tracedNumber (tracedBy st site q v)) (tracedNumbered (tracedBy st site q v)) (λ r. v ≡ Refuse r)
   unfolding tracedNumber
-  traced-answer pass =
-      let d = traced-decoded (tracedBy st site q pass) (omega arith) (lines-most st site q) (forwardings-most st site q) in
-      tells-accepted (ap (λ (i : Numbered). i .number) d) verdict-refused (traced-fits (tracedBy st site q pass) (omega arith) (lines-most st site q) (forwardings-most st site q)) d
-  traced-answer (refuse r) =
-      let t : Traced = tracedBy st site q (refuse r) in
+  traced-answer Fine =
+      let d = traced-decoded (tracedBy st site q Fine) (omega arith) (lines-most st site q) (forwardings-most st site q) in
+      tells-accepted (ap (λ (i : Numbered). i .number) d) verdict-refused (traced-fits (tracedBy st site q Fine) (omega arith) (lines-most st site q) (forwardings-most st site q)) d
+  traced-answer (Refuse r) =
+      let t : Traced = tracedBy st site q (Refuse r) in
       let e : tracedNumber t ≡ number r = omega arith in
       tells-refused r e refl (verdict-apart r) (omega arith) (ap tracedFrom (sym e) ∙ traced-decoded t (number-most r) (omega arith) (omega arith))
 
   module _ {room : List ℕ} {answer : ℕ} {room′ : List ℕ} (w : TracedThrough st site q room answer room′) where
-    pub trace-told : Tells 40 tracedFrom answer (tracedNumbered (tracedBy st site q (firstOf (traceTests st site q (length room))))) (λ r. firstOf (traceTests st site q (length room)) ≡ refuse r)
+    pub trace-told : Tells 40 tracedFrom answer (tracedNumbered (tracedBy st site q (firstOf (traceTests st site q (length room))))) (λ r. firstOf (traceTests st site q (length room)) ≡ Refuse r)
     trace-told = rw (w .answered) (traced-answer (firstOf (traceTests st site q (length room))))
 
-    pub trace-counted : firstOf (traceTests st site q (length room)) ≡ pass → (linesIn answer ≡ linesListed st site q) × (forwardingsIn answer ≡ forwardings st site q)
+    pub trace-counted : firstOf (traceTests st site q (length room)) ≡ Fine → (linesIn answer ≡ linesListed st site q) × (forwardingsIn answer ≡ forwardings st site q)
     trace-counted e =
-        let d : tracedFrom answer ≡ tracedNumbered (tracedBy st site q pass) = trace-told .decoded ∙ ap (λ (v : Verdict). tracedNumbered (tracedBy st site q v)) e in
+        let d : tracedFrom answer ≡ tracedNumbered (tracedBy st site q Fine) = trace-told .decoded ∙ ap (λ (v : Verdict). tracedNumbered (tracedBy st site q v)) e in
         (ap (λ (i : Numbered). getD (i .values) 0 0) d, ap (λ (i : Numbered). getD (i .values) 1 0) d)
 
     -- "1 to 256", and the forwardings are one less
@@ -124,19 +126,19 @@ module _ (st : Stores) (site : List ℕ) (q : Query) where
     trace-lines h z = go (firstOf (traceTests st site q (length room))) refl
       where
         go : (v : Verdict) → firstOf (traceTests st site q (length room)) ≡ v → (1 ≤ linesIn answer) × ((linesIn answer ≤ 256) × (forwardingsIn answer + 1 ≡ linesIn answer))
-        go pass e =
+        go Fine e =
             let n = trace-counted e in
             let some : 1 ≤ linesListed st site q = lines-some st site q h in
             (rw (n .0) some, (rw (n .0) (lines-most st site q), rw (n .0, n .1, trace-less-one st site q h) (omega arith)))
-        go (refuse r) e = absurd (trace-told .accepted .0 z r e)
+        go (Refuse r) e = absurd (trace-told .accepted .0 z r e)
 
     -- refused: the room as it was
     pub trace-leaves : (numberIn answer ≡ 0 → ⊥) → room′ ≡ room
     trace-leaves n = go (firstOf (traceTests st site q (length room))) refl
       where
         go : (v : Verdict) → firstOf (traceTests st site q (length room)) ≡ v → room′ ≡ room
-        go pass e = absurd (n (trace-told .accepted .1 (λ r f. verdict-refused r (sym e ∙ f))))
-        go (refuse r) e = w .left ∙ ap (λ (v : Verdict). over (listBy st site q v) room) e
+        go Fine e = absurd (n (trace-told .accepted .1 (λ r f. verdict-refused r (sym e ∙ f))))
+        go (Refuse r) e = w .left ∙ ap (λ (v : Verdict). over (listBy st site q v) room) e
 
 -- what stops a telegram: a crossing of the path, between lines below 256
 
@@ -273,10 +275,10 @@ module _ (st : Stores) (site : List ℕ) (q : Query) (line : ℕ) (h : q .start 
   why-stops stop = go (firstOf (whyTests st site q)) refl
     where
       go : (v : Verdict) → firstOf (whyTests st site q) ≡ v → answerBy Refused (whyOf st site q line) v ≡ NotReached stop → Stops stop
-      go pass e w =
+      go Fine e w =
           let query : isQuery q ≡ true = not-false (isQuery q) (passed-iff (whyTests st site q) .0 e .0) in
           stops st site q line stop (leb-true (q .count) 7 (and-true (leb (q .kind) 1) (leb (q .count) 7) query .1)) h k w
-      go (refuse r) e w = let z : _≡_ {A = ℕ} 0 1 = cc in absurd (omega arith)
+      go (Refuse r) e w = let z : _≡_ {A = ℕ} 0 1 = cc in absurd (omega arith)
 
   pub why-told : Tells 25 explanationFrom (explanationNumber (answerWhy st site q line)) (explanationNumbered (answerWhy st site q line)) (λ r. answerWhy st site q line ≡ Refused r)
   why-told = explanation-answer (answerWhy st site q line) why-stops

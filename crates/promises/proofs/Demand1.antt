@@ -15,7 +15,9 @@ use Rattle.coupler.specs.Answers.{judgedNumbered}
 use Rattle.coupler.specs.Step.{judgedBy}
 use Rattle.frame.proofs.Numbers.{number-listed, refused-number, number-apart}
 use Rattle.frame.specs.Answers.{Numbered, accepted, refused, meaningValues, writtenNumbered}
-use Rattle.frame.specs.Order.{Test, Verdict, firstOf, answerBy, pass, refuse}
+use Rattle.frame.specs.Order.{Test, firstOf, answerBy}
+use Rattle.frame.specs.declared.Verdict.the-variants.{Fine, Refuse}
+use Rattle.frame.specs.declared.Verdict.{Verdict}
 use Rattle.frame.specs.Refusals.{number}
 use Rattle.frame.specs.Writing.{writeTests, written, Wrote}
 use Rattle.frame.specs.declared.Refusal.{Refusal}
@@ -23,7 +25,7 @@ use Rattle.frame.specs.declared.Written.{Written}
 use Rattle.octets.specs.Octets.{octetAt}
 use Rattle.octets.specs.Room.{over}
 use Rattle.routing.specs.Answers.{headerNumbered}
-use Rattle.routing.specs.Header.{headerTests, readHeader}
+use Rattle.knxnetip.specs.Header.{headerTests, readHeader}
 use Rattle.routing.specs.Reading.{message, routingTests, readRouting, routedPayload, routedInformation}
 use Rattle.site.specs.Stores.{Stores}
 use Rattle.site.specs.WellFormed.{siteTests}
@@ -73,8 +75,8 @@ reader-by refusal answer numbered parts values a r none ts = record {
 }
   where
     go : (v : Verdict) → (numbered (answerBy refusal answer v) .number ≡ 0 → ⊥) → AllEmpty (parts (answerBy refusal answer v))
-    go pass n = absurd (n (ap (λ (x : Numbered). x .number) a))
-    go (refuse q) n = none q
+    go Fine n = absurd (n (ap (λ (x : Numbered). x .number) a))
+    go (Refuse q) n = none q
 
 pub tp1-ends : (s : List ℕ) → ReaderEnds (meaningValues (meaningIn s)) (tp1Tests s) (tp1Numbered (readTp1 s)) (tp1Payload (readTp1 s) s ∷ [])
 unfolding readTp1
@@ -144,9 +146,9 @@ module _ (st : Stores) (site : List ℕ) (q : Query) (room room′ : List ℕ) (
   trace-refused n = go (firstOf (traceTests st site q (length room))) refl
     where
       go : (v : Verdict) → firstOf (traceTests st site q (length room)) ≡ v → (room′ ≡ room) × ((answer .lines ≡ 0) × (answer .forwardings ≡ 0))
-      go pass e = absurd (n (ap (λ (u : Traced). u .number) (d .answered ∙ ap (tracedBy st site q) e)))
-      go (refuse r) e =
-          let a : answer ≡ tracedBy st site q (refuse r) = d .answered ∙ ap (tracedBy st site q) e in
+      go Fine e = absurd (n (ap (λ (u : Traced). u .number) (d .answered ∙ ap (tracedBy st site q) e)))
+      go (Refuse r) e =
+          let a : answer ≡ tracedBy st site q (Refuse r) = d .answered ∙ ap (tracedBy st site q) e in
           (d .left ∙ ap (λ (v : Verdict). over (listBy st site q v) room) e, (ap (λ (u : Traced). u .lines) a, ap (λ (u : Traced). u .forwardings) a))
 
 -- its explanation: nothing of a line that is reached; otherwise the reason's number, the coupler's line and the direction of travel

@@ -17,7 +17,9 @@ use Rattle.coupler.specs.declared.Passage.{Passage}
 use Rattle.frame.proofs.Numbers.{refused-number}
 use Rattle.frame.proofs.Order.{passed-iff}
 use Rattle.frame.specs.Answers.{Numbered, accepted}
-use Rattle.frame.specs.Order.{Verdict, firstOf, answerBy, NoneOf, pass}
+use Rattle.frame.specs.Order.{firstOf, answerBy, NoneOf}
+use Rattle.frame.specs.declared.Verdict.the-variants.{Fine}
+use Rattle.frame.specs.declared.Verdict.{Verdict}
 use Rattle.frame.specs.Refusals.{number}
 use Rattle.octets.proofs.Below.{and-true}
 use Rattle.octets.specs.Octets.{Octets}
@@ -79,8 +81,8 @@ signs : (st : Stores) (site : List ℕ) (q : Query) (room room′ : List ℕ) (a
     → DidTrace st site q room answer room′ → Signed st site q room answer room′
 signs st site q room room′ answer w a b h d =
     let ts = traceTests st site q (length room) in
-    let v : firstOf ts ≡ pass = passed-iff ts .1 (rw a refl, (le-ltb (length room) 768 h, w)) in
-    let t : answer ≡ tracedBy st site q pass = d .answered ∙ ap (tracedBy st site q) v in
+    let v : firstOf ts ≡ Fine = passed-iff ts .1 (rw a refl, (le-ltb (length room) 768 h, w)) in
+    let t : answer ≡ tracedBy st site q Fine = d .answered ∙ ap (tracedBy st site q) v in
     let ls = linesOn st site q in
     let n : answer .lines ≡ linesListed st site q = ap (λ (u : Traced). u .lines) t in
     let c : answer .lines ≡ length ls = n ∙ lines-count st site q in

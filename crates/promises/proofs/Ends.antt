@@ -4,7 +4,9 @@ use mathlib.Core.List.{List}
 use mathlib.Core.Path.{_≡_, refl, sym, ap, _∙_}
 use Rattle.frame.proofs.Order.{passed-iff, refused-iff}
 use Rattle.frame.specs.Answers.{Numbered, accepted, refused}
-use Rattle.frame.specs.Order.{Test, Verdict, firstOf, answerBy, NoneOf, FirstIs, pass, refuse}
+use Rattle.frame.specs.Order.{Test, firstOf, answerBy, NoneOf, FirstIs}
+use Rattle.frame.specs.declared.Verdict.the-variants.{Fine, Refuse}
+use Rattle.frame.specs.declared.Verdict.{Verdict}
 use Rattle.frame.specs.declared.Refusal.{Refusal}
 
 -- an answer where no test of the order is true; otherwise the refusal of the first one that is
@@ -18,12 +20,12 @@ EndsNumbered values ts given = Ends refused (accepted values) ts given
 
 module _ {A : Type 0} (refusal : Refusal → A) (answer : A) where
   -- an answer that the verdict of the order chooses
-  pub ends-by : (by : Verdict → A) → by pass ≡ answer → ((r : Refusal) → by (refuse r) ≡ refusal r) → (ts : List Test) → Ends refusal answer ts (by (firstOf ts))
+  pub ends-by : (by : Verdict → A) → by Fine ≡ answer → ((r : Refusal) → by (Refuse r) ≡ refusal r) → (ts : List Test) → Ends refusal answer ts (by (firstOf ts))
   ends-by by p q ts = go (firstOf ts) refl
     where
       go : (v : Verdict) → firstOf ts ≡ v → Ends refusal answer ts (by (firstOf ts))
-      go pass e = answers (passed-iff ts .0 e) (ap by e ∙ p)
-      go (refuse r) e = refuses r (refused-iff ts r .0 e) (ap by e ∙ q r)
+      go Fine e = answers (passed-iff ts .0 e) (ap by e ∙ p)
+      go (Refuse r) e = refuses r (refused-iff ts r .0 e) (ap by e ∙ q r)
 
   -- "the one": an order leaves one end
   pub ends-one : (ts : List Test) (a b : A) → Ends refusal answer ts a → Ends refusal answer ts b → a ≡ b

@@ -21,7 +21,9 @@ use Rattle.cemi.specs.declared.Codes.the-variants.{IndicationOnly}
 use Rattle.cemi.specs.declared.Message.{Message}
 use Rattle.coupler.specs.Step.{Setting, settingTests, fromIp, frame, nothing, heardTp1, heardIp, readBy, readerTests, stepTests, after, heard, indication}
 use Rattle.frame.proofs.Order.{passed-iff, refused-iff, first-passed, first-refused}
-use Rattle.frame.specs.Order.{Verdict, firstOf, answerBy, NoneOf, FirstIs, pass, refuse}
+use Rattle.frame.specs.Order.{firstOf, answerBy, NoneOf, FirstIs}
+use Rattle.frame.specs.declared.Verdict.the-variants.{Fine, Refuse}
+use Rattle.frame.specs.declared.Verdict.{Verdict}
 use Rattle.frame.specs.Valid.{Valid}
 use Rattle.frame.specs.declared.Meaning.{Meaning}
 use Rattle.frame.specs.declared.Refusal.{Refusal}
@@ -54,7 +56,7 @@ frame-apart e = let z : _≡_ {A = ℕ} 0 1 = cc in absurd (omega arith)
 frame-one : {m n : Meaning} {p q : List ℕ} → frame m p ≡ frame n q → (m ≡ n) × (p ≡ q)
 frame-one e = (cc, cc)
 
-refuse-one : {q r : Refusal} → refuse q ≡ refuse r → q ≡ r
+refuse-one : {q r : Refusal} → Refuse q ≡ Refuse r → q ≡ r
 refuse-one e = cc
 
 nothing-one : {q r : Refusal} → nothing q ≡ nothing r → q ≡ r
@@ -125,16 +127,16 @@ unfolding readTp1 readRouting
 by-order false s = record { meaning = meaningIn s; payload = payloadIn (Frame (meaningIn s)) s; answers = go (firstOf (tp1Tests s)) }
   where
     go : (v : Verdict) → heardTp1 (answerBy Refused (Frame (meaningIn s)) v) s ≡ answerBy nothing (frame (meaningIn s) (payloadIn (Frame (meaningIn s)) s)) v
-    go pass = refl
-    go (refuse r) = refl
+    go Fine = refl
+    go (Refuse r) = refl
 by-order true s = go (messageIn (octetAt (message s) 0) (body (message s))) refl
   where
     go : (x : Message) → messageIn (octetAt (message s) 0) (body (message s)) ≡ x → ByOrder true s
     go x e = record { meaning = x .meaning; payload = routedPayload (Message-is x) s; answers = rw e (by (firstOf (routingTests s))) }
       where
         by : (v : Verdict) → heardIp (answerBy Message-not (Message-is x) v) s ≡ answerBy nothing (frame (x .meaning) (routedPayload (Message-is x) s)) v
-        by pass = refl
-        by (refuse r) = refl
+        by Fine = refl
+        by (Refuse r) = refl
 
 module _ (k : Setting) (s : List ℕ) (room : ℕ) where
   -- a frame is heard exactly if ..
@@ -143,8 +145,8 @@ module _ (k : Setting) (s : List ℕ) (room : ℕ) where
   hears-iff m p o = (to (firstOf (settingTests k room)) refl, from)
     where
       to : (v : Verdict) → firstOf (settingTests k room) ≡ v → after v (readBy (fromIp k) s) ≡ frame m p → Hears k s room m p
-      to pass e q = record { set = passed-iff (settingTests k room) .0 e; is = read-iff (fromIp k) s m p o .0 q }
-      to (refuse r) e q = frame-apart q
+      to Fine e q = record { set = passed-iff (settingTests k room) .0 e; is = read-iff (fromIp k) s m p o .0 q }
+      to (Refuse r) e q = frame-apart q
 
       from : Hears k s room m p → after (firstOf (settingTests k room)) (readBy (fromIp k) s) ≡ frame m p
       from h = ap (λ (v : Verdict). after v (readBy (fromIp k) s)) (passed-iff (settingTests k room) .1 (h .set)) ∙ read-iff (fromIp k) s m p o .1 (h .is)
@@ -160,19 +162,19 @@ module _ (k : Setting) (s : List ℕ) (room : ℕ) where
     (λ f. from (firstOf (settingTests k room)) refl (refused-iff (stepTests k s room) r .1 f)),
   )
     where
-      read : (v : Verdict) → answerBy nothing (frame (order .meaning) (order .payload)) v ≡ nothing r → v ≡ refuse r
-      read pass e = frame-apart (sym e)
-      read (refuse q) e = ap refuse (nothing-one e)
+      read : (v : Verdict) → answerBy nothing (frame (order .meaning) (order .payload)) v ≡ nothing r → v ≡ Refuse r
+      read Fine e = frame-apart (sym e)
+      read (Refuse q) e = ap Refuse (nothing-one e)
 
-      to : (v : Verdict) → firstOf (settingTests k room) ≡ v → after v (readBy (fromIp k) s) ≡ nothing r → firstOf (stepTests k s room) ≡ refuse r
-      to pass e q = first-passed (settingTests k room) (readerTests (fromIp k) s) e ∙ read _ (sym (order .answers) ∙ q)
-      to (refuse x) e q = first-refused (settingTests k room) (readerTests (fromIp k) s) x e ∙ ap refuse (nothing-one q)
+      to : (v : Verdict) → firstOf (settingTests k room) ≡ v → after v (readBy (fromIp k) s) ≡ nothing r → firstOf (stepTests k s room) ≡ Refuse r
+      to Fine e q = first-passed (settingTests k room) (readerTests (fromIp k) s) e ∙ read _ (sym (order .answers) ∙ q)
+      to (Refuse x) e q = first-refused (settingTests k room) (readerTests (fromIp k) s) x e ∙ ap Refuse (nothing-one q)
 
-      from : (v : Verdict) → firstOf (settingTests k room) ≡ v → firstOf (stepTests k s room) ≡ refuse r → after (firstOf (settingTests k room)) (readBy (fromIp k) s) ≡ nothing r
-      from pass e q =
+      from : (v : Verdict) → firstOf (settingTests k room) ≡ v → firstOf (stepTests k s room) ≡ Refuse r → after (firstOf (settingTests k room)) (readBy (fromIp k) s) ≡ nothing r
+      from Fine e q =
           ap (λ (v : Verdict). after v (readBy (fromIp k) s)) e
           ∙ order .answers
           ∙ ap (answerBy nothing (frame (order .meaning) (order .payload))) (sym (first-passed (settingTests k room) (readerTests (fromIp k) s) e) ∙ q)
-      from (refuse x) e q =
+      from (Refuse x) e q =
           ap (λ (v : Verdict). after v (readBy (fromIp k) s)) e
           ∙ ap nothing (refuse-one (sym (first-refused (settingTests k room) (readerTests (fromIp k) s) x e) ∙ q))

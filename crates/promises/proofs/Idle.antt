@@ -16,7 +16,9 @@ use Rattle.frame.proofs.Writing.{put-iff, wrote-over}
 use Rattle.frame.specs.Answers.{Numbered, writtenNumbered}
 use Rattle.frame.specs.Fields.{controlOf, ctrleOf}
 use Rattle.frame.proofs.Order.{passed-iff}
-use Rattle.frame.specs.Order.{Verdict, firstOf, NoneOf, pass}
+use Rattle.frame.specs.Order.{firstOf, NoneOf}
+use Rattle.frame.specs.declared.Verdict.the-variants.{Fine}
+use Rattle.frame.specs.declared.Verdict.{Verdict}
 use Rattle.frame.specs.Valid.{inRange}
 use Rattle.frame.specs.Writing.{Wrote}
 use Rattle.frame.specs.declared.Meaning.{Meaning}
@@ -236,7 +238,7 @@ module _ (trace : Stores → List ℕ → Query → List ℕ → TraceLeft)
     abbrev left : TraceLeft
     left = trace st site q room
 
-    passed : firstOf (traceTests st site q (length room)) ≡ pass
+    passed : firstOf (traceTests st site q (length room)) ≡ Fine
     passed = passed-iff (traceTests st site q (length room)) .1 (rw asks refl, (le-ltb (length room) 768 large, well))
 
     -- three octets of the list tell of a line another number of couplers crossed than its path has

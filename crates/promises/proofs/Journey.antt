@@ -11,7 +11,9 @@ use lib.ListN.{length}
 use borrow.Author.Tests.{leb-true, eqb-true, eqb-false, le-ltb, le-leb}
 use Rattle.frame.proofs.Order.{passed-iff}
 use Rattle.frame.proofs.Valid.{Ranges, ranges-of, ranged}
-use Rattle.frame.specs.Order.{Verdict, firstOf, NoneOf, pass}
+use Rattle.frame.specs.Order.{firstOf, NoneOf}
+use Rattle.frame.specs.declared.Verdict.the-variants.{Fine}
+use Rattle.frame.specs.declared.Verdict.{Verdict}
 use Rattle.frame.specs.Valid.{Valid}
 use Rattle.frame.specs.declared.Meaning.{Meaning}
 use Rattle.octets.proofs.Below.{and-true}
@@ -36,7 +38,7 @@ backbone-on-ip w ok = backbone-ip w (passed-iff (siteTests (w .stores) (w .site)
 
 module _ (w : AtWork) (o : Octets (w .site)) (ok : NoneOf (siteTests (w .stores) (w .site))) (start : ℕ) (small : start < 256) (m : Meaning) (p : List ℕ) (v : Valid m p) (new : m .first ≡ true)
     (room room′ : List ℕ) (answer : Traced) (large : 768 ≤ length room) (d : DidTrace (w .stores) (w .site) (askedOf start m) room answer room′) where
-  fine : firstOf (siteTests (w .stores) (w .site)) ≡ pass
+  fine : firstOf (siteTests (w .stores) (w .site)) ≡ Fine
   fine = passed-iff (siteTests (w .stores) (w .site)) .1 ok
 
   asks : isQuery (askedOf start m) ≡ true
@@ -46,10 +48,10 @@ module _ (w : AtWork) (o : Octets (w .site)) (ok : NoneOf (siteTests (w .stores)
       kind true = refl
       kind false = refl
 
-  passed : firstOf (traceTests (w .stores) (w .site) (askedOf start m) (length room)) ≡ pass
+  passed : firstOf (traceTests (w .stores) (w .site) (askedOf start m) (length room)) ≡ Fine
   passed = passed-iff (traceTests (w .stores) (w .site) (askedOf start m) (length room)) .1 (rw asks refl, (le-ltb (length room) 768 large, ok))
 
-  answered : answer ≡ tracedBy (w .stores) (w .site) (askedOf start m) pass
+  answered : answer ≡ tracedBy (w .stores) (w .site) (askedOf start m) Fine
   answered = d .answered ∙ ap (tracedBy (w .stores) (w .site) (askedOf start m)) passed
 
   lines-are : answer .lines ≡ linesListed (w .stores) (w .site) (askedOf start m)

@@ -20,7 +20,8 @@ use Rattle.coupler.specs.Step.{Setting, Heard, Did, outcomeOf, fromIp, nothing}
 use Rattle.coupler.specs.declared.Memory.{Memory}
 use Rattle.coupler.specs.declared.Outcome.{Outcome}
 use Rattle.frame.specs.Answers.{Numbered, writtenNumbered}
-use Rattle.frame.specs.Order.{firstOf, refuse}
+use Rattle.frame.specs.Order.{firstOf}
+use Rattle.frame.specs.declared.Verdict.the-variants.{Refuse}
 use Rattle.frame.specs.Refusals.{number}
 use Rattle.frame.specs.Valid.{inRange}
 use Rattle.frame.specs.Writing.{written}
@@ -167,7 +168,7 @@ remembered-read block side n h = (remembered-within block side n h, remembered-i
 
 -- "A trace's answer. With a refusal every bit above 7 is 0."
 module _ (st : Stores) (site : List ℕ) (q : Query) (room : List ℕ) (answer : ℕ) (room′ : List ℕ) (w : TracedThrough st site q room answer room′) where
-  pub trace-back : Tells 40 tracedFrom answer (tracedNumbered (tracedBy st site q (firstOf (traceTests st site q (length room))))) (λ r. firstOf (traceTests st site q (length room)) ≡ refuse r)
+  pub trace-back : Tells 40 tracedFrom answer (tracedNumbered (tracedBy st site q (firstOf (traceTests st site q (length room))))) (λ r. firstOf (traceTests st site q (length room)) ≡ Refuse r)
   trace-back = trace-told st site q w
 
   -- "how many lines are listed, 1 to 256"; "the forwardings made on the site: the lines listed less one"

@@ -5,7 +5,7 @@ use Rattle.frame.specs.Fields.{isControl, controlOf, ctrleOf, fieldsMeaning}
 use Rattle.tp1.specs.Layout.{head, sealed, tp1Octets}
 use Rattle.tp1.specs.Reading.{isExtended, headSize, isOtherFormat, isEscape, frameSize, isChecked, meaningIn, readTp1}
 use Rattle.cemi.specs.Reading.{body, isOtherFormat as isOtherBody, isEscape as isEscapeBody, isLongStandard, bodySize, messageIn}
-use Rattle.routing.specs.Header.{isOtherHeader, isOtherService, isOtherLength}
+use Rattle.knxnetip.specs.Header.{isOtherHeader, isOtherService, isOtherLength}
 use Rattle.routing.specs.Reading.{readRouting}
 use Rattle.coupler.specs.Settings.{classOf, isCode, isRow, areCodes, asksTable, tableFits}
 use Rattle.coupler.specs.Passing.{isOwn, isInTable, isBelow, isRuled, mayPass}

@@ -6,7 +6,8 @@ use mathlib.Core.Path.{_≡_}
 use lib.ListN.{length}
 use Rattle.coupler.specs.Passing.{tableOctet, tableBit}
 use Rattle.coupler.specs.Step.{Setting, settingOf, Heard, heard, outcomeOf, sent}
-use Rattle.frame.specs.Order.{Verdict, firstOf}
+use Rattle.frame.specs.Order.{firstOf}
+use Rattle.frame.specs.declared.Verdict.{Verdict}
 use Rattle.frame.specs.Answers.{Numbered, accepted, meaningValues}
 use Rattle.coupler.specs.Answers.{acknowledgementNumber}
 use Rattle.site.specs.Stores.{stores}

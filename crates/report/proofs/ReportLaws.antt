@@ -8,7 +8,9 @@ use native.Mathlib.Omega.{arith}
 use lib.ListN.{length, take, drop, length-append, length-drop}
 use lib.Seq.{take-at}
 use borrow.Author.Tests.{ltb-true, lt-ltb, le-ltb}
-use Rattle.frame.specs.Order.{Verdict, firstOf, answerBy, _gives_, pass, refuse}
+use Rattle.frame.specs.Order.{firstOf, answerBy, _gives_}
+use Rattle.frame.specs.declared.Verdict.the-variants.{Fine, Refuse}
+use Rattle.frame.specs.declared.Verdict.{Verdict}
 use Rattle.frame.specs.Refusals.{number}
 use Rattle.frame.specs.declared.Refusal.the-variants.{TooFew, NotData, OtherFormat, Escape, LeftOver, WrongCheck, OtherCode, InformationEscape, LongStandard, OtherHeader, OtherService, OtherLength, SmallRoom, OutOfRange, WrongSetting, WrongRecord, LineTwice, NoTable}
 use Rattle.frame.specs.declared.Refusal.{Refusal}
@@ -65,8 +67,8 @@ listed-fits list n room o l h k =
 module _ (s : List ℕ) (t : Traced) where
   pub refused-text : (v : Verdict) → t ≡ tracedBy noStores (siteIn s) (queryIn s) v → 0 < t .number → toldLine (ascii "refused ") (t .number) ≡ answerText s v
   unfolding answerText
-  refused-text pass e h = absurd (omega (arith, ap (λ (x : Traced). x .number) e))
-  refused-text (refuse r) e h = ap (λ (x : Traced). toldLine (ascii "refused ") (x .number)) e
+  refused-text Fine e h = absurd (omega (arith, ap (λ (x : Traced). x .number) e))
+  refused-text (Refuse r) e h = ap (λ (x : Traced). toldLine (ascii "refused ") (x .number)) e
 
   pub record ListedText (v : Verdict) (list : List ℕ) : Type 0 where
     pub within : t .lines * 3 ≤ length list
@@ -75,7 +77,7 @@ module _ (s : List ℕ) (t : Traced) where
   pub listed-text : (room list : List ℕ) (v : Verdict) → t ≡ tracedBy noStores (siteIn s) (queryIn s) v → t .number ≤ 0
       → list ≡ over (listBy noStores (siteIn s) (queryIn s) v) room → length list ≡ length room → ListedText v list
   unfolding answerText
-  listed-text room list pass e h l k =
+  listed-text room list Fine e h l k =
       let L = listed noStores (siteIn s) (queryIn s) in
       let n : length L ≡ t .lines * 3 = trace-three-each noStores (siteIn s) (queryIn s) ∙ ap (λ (x : Traced). x .lines * 3) (sym e) in
       let w : length list ≡ length L + (length room - length L) = ap length l ∙ rw (length-append, length-drop) in
@@ -83,7 +85,7 @@ module _ (s : List ℕ) (t : Traced) where
         within = omega arith;
         told = rw (l, take-at L (drop (length L) room) (t .lines * 3) n) (ap (λ (x : Traced). listText L ++ toldLine (ascii "forwardings ") (x .forwardings)) e);
       }
-  listed-text room list (refuse r) e h l k = absurd (omega (arith, number-some r, ap (λ (x : Traced). x .number) e))
+  listed-text room list (Refuse r) e h l k = absurd (omega (arith, number-some r, ap (λ (x : Traced). x .number) e))
 
 -- the same of the call: the query and the site as they were read, and an array of 768 octets lent
 

@@ -6,7 +6,9 @@ use lib.Dec.{ltb}
 use lib.ListN.{length, drop}
 use Rattle.octets.specs.Octets.{octetAt}
 use Rattle.octets.specs.Word.{wordAt}
-use Rattle.frame.specs.Order.{Test, Verdict, firstOf, answerBy, _gives_, pass, refuse}
+use Rattle.frame.specs.Order.{Test, firstOf, answerBy, _gives_}
+use Rattle.frame.specs.declared.Verdict.the-variants.{Fine, Refuse}
+use Rattle.frame.specs.declared.Verdict.{Verdict}
 use Rattle.frame.specs.Refusals.{number}
 use Rattle.frame.specs.Writing.{roomAfter}
 use Rattle.frame.specs.declared.Refusal.the-variants.{TooFew, LeftOver, SmallRoom}
@@ -41,10 +43,10 @@ reportTests s =
 
 -- a line for each listed one, and how many forwardings were made; "On refusal it writes `refused N`."
 unfoldable pub answerText : List ℕ → Verdict → List ℕ
-answerText s pass =
+answerText s Fine =
     listText (listed noStores (siteIn s) (queryIn s))
     ++ toldLine (ascii "forwardings ") (forwardings noStores (siteIn s) (queryIn s))
-answerText s (refuse r) = toldLine (ascii "refused ") (number r)
+answerText s (Refuse r) = toldLine (ascii "refused ") (number r)
 
 unfoldable pub reportOf : List ℕ → List ℕ
 reportOf s = answerText s (firstOf (reportTests s))

@@ -10,7 +10,8 @@ use lib.Dec.{leb}
 use borrow.Author.Tests.{leb-true, ne-eqb}
 use Rattle.coupler.proofs.StepLaws.{judged-fine, judged-refused}
 use Rattle.coupler.specs.Step.{judgedBy}
-use Rattle.frame.specs.Order.{Test, firstOf, NoneOf, FirstIs, _gives_, refuse}
+use Rattle.frame.specs.Order.{Test, firstOf, NoneOf, FirstIs, _gives_}
+use Rattle.frame.specs.declared.Verdict.the-variants.{Refuse}
 use Rattle.frame.specs.Refusals.{number}
 use Rattle.frame.specs.declared.Refusal.{Refusal}
 use Rattle.octets.proofs.Below.{and-true}
@@ -45,7 +46,7 @@ refused-iff st site r = (
   (λ f. ap judgedBy (order-iff (siteTests st site) r .1 f)),
 )
 
-numbered-by : (ts : List Test) (r : Refusal) → areSites ts ≡ true → firstOf ts ≡ refuse r → (15 ≤ number r) × (number r ≤ 18)
+numbered-by : (ts : List Test) (r : Refusal) → areSites ts ≡ true → firstOf ts ≡ Refuse r → (15 ≤ number r) × (number r ≤ 18)
 numbered-by [] r a e = let z : _≡_ {A = ℕ} 0 1 = cc in absurd (omega arith)
 numbered-by (true gives q ∷ ts) r a e =
     let h : q ≡ r = cc in
@@ -57,7 +58,7 @@ numbered-by (false gives q ∷ ts) r a e =
     numbered-by ts r (and-true (leb (number q) 18) (areSites ts) (x .1) .1) e
 
 -- a refused site draws one of 15 to 18
-pub site-numbers : (st : Stores) (site : List ℕ) (r : Refusal) → firstOf (siteTests st site) ≡ refuse r → (15 ≤ number r) × (number r ≤ 18)
+pub site-numbers : (st : Stores) (site : List ℕ) (r : Refusal) → firstOf (siteTests st site) ≡ Refuse r → (15 ≤ number r) × (number r ≤ 18)
 site-numbers st site r = numbered-by (siteTests st site) r (site-are st site)
 
 -- and no other

@@ -14,7 +14,9 @@ use Rattle.coupler.specs.Passing.{doesPass}
 use Rattle.coupler.specs.declared.Passage.{Passage}
 use Rattle.frame.proofs.Answers.{Split, Tells, answers, refuses, tells}
 use Rattle.frame.specs.Answers.{accepted}
-use Rattle.frame.specs.Order.{Verdict, firstOf, answerBy, pass, refuse}
+use Rattle.frame.specs.Order.{firstOf, answerBy}
+use Rattle.frame.specs.declared.Verdict.the-variants.{Fine, Refuse}
+use Rattle.frame.specs.declared.Verdict.{Verdict}
 use Rattle.site.specs.Letting.{passageAt}
 use Rattle.site.specs.Records.{recordsOf}
 use Rattle.site.specs.Stores.{Stores}
@@ -108,5 +110,5 @@ why-reason st site q line n coupler direction = go (firstOf (whyTests st site q)
     w = walked st site (eqb (q .kind) 1) (q .destination) (Going (q .count)) (path (q .start) line)
 
     go : (v : Verdict) → explanationNumbered (answerBy Refused (whyBy w) v) .values ≡ n ∷ coupler ∷ direction ∷ [] → (1 ≤ n) × (n ≤ 7)
-    go pass e = reason-by w (walked-reasoned st site (eqb (q .kind) 1) (q .destination) (Going (q .count)) (path (q .start) line) tt) n coupler direction e
-    go (refuse r) e = let z : _≡_ {A = ℕ} 0 3 = ap length e in absurd (omega arith)
+    go Fine e = reason-by w (walked-reasoned st site (eqb (q .kind) 1) (q .destination) (Going (q .count)) (path (q .start) line) tt) n coupler direction e
+    go (Refuse r) e = let z : _≡_ {A = ℕ} 0 3 = ap length e in absurd (omega arith)

@@ -11,7 +11,8 @@ use borrow.Author.Tests.{eqb-true, not-false, lt-ltb, le-ltb, eq-eqb}
 use Rattle.coupler.specs.Settings.{areCodes, asksTable, tableFits}
 use Rattle.coupler.specs.Step.{settingTests}
 use Rattle.frame.proofs.Order.{passed-iff}
-use Rattle.frame.specs.Order.{firstOf, NoneOf, pass}
+use Rattle.frame.specs.Order.{firstOf, NoneOf}
+use Rattle.frame.specs.declared.Verdict.the-variants.{Fine}
 use Rattle.octets.proofs.Octets.{octets-take, octets-drop}
 use Rattle.octets.specs.Octets.{Octets}
 use Rattle.site.specs.Records.{recordsBy, recordsOf, lineOf, codesOf, tableNumber, couplerIn, couplerOf, isFitted}
@@ -37,7 +38,7 @@ set-in st line found lines (r ∷ rs) h n e =
     go true q w = record { place = eqb-true (lineOf r) line q; codes = n .1 .0; table = not-false (hasTable st r) (n .1 .1 .0) }
     go false q w = h w
 
-pub fitted-set : (st : Stores) (site : List ℕ) → firstOf (siteTests st site) ≡ pass → (line : ℕ) → isFitted (couplerOf line (recordsOf site)) ≡ true
+pub fitted-set : (st : Stores) (site : List ℕ) → firstOf (siteTests st site) ≡ Fine → (line : ℕ) → isFitted (couplerOf line (recordsOf site)) ≡ true
     → IsSet st line (couplerOf line (recordsOf site))
 unfolding siteTests couplerOf
 fitted-set st site w line e =
@@ -81,7 +82,7 @@ table-fits st r h =
     (λ e. let a : eqb (length (tableOf (tableNumber r) st)) 8192 ≡ true = rw e at h in rw a refl)
 
 -- the step's settings pass
-pub set-passes : (w : AtWork) (line : ℕ) (r : List ℕ) → IsSet (w .stores) line r → (side room : ℕ) → side < 2 → 272 ≤ room → firstOf (settingTests (settingBy w r side) room) ≡ pass
+pub set-passes : (w : AtWork) (line : ℕ) (r : List ℕ) → IsSet (w .stores) line r → (side room : ℕ) → side < 2 → 272 ≤ room → firstOf (settingTests (settingBy w r side) room) ≡ Fine
 set-passes w line r x side room h n =
     passed-iff (settingTests (settingBy w r side) room) .1
     (x .codes, (ap not (table-fits (w .stores) r (x .table)), (rw (lt-ltb side 2 h) (ap not (medium (isIp w (mainSide (lineOf r))))), (le-ltb room 272 n, tt))))

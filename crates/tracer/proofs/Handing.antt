@@ -18,7 +18,9 @@ use Rattle.coupler.specs.Step.{Setting, settingTests, fromIp, Heard, heardTp1, 
 use Rattle.coupler.specs.declared.Memory.{Memory}
 use Rattle.coupler.specs.declared.Outcome.{Outcome}
 use Rattle.frame.proofs.Order.{passed-iff}
-use Rattle.frame.specs.Order.{Verdict, firstOf, pass, refuse}
+use Rattle.frame.specs.Order.{firstOf}
+use Rattle.frame.specs.declared.Verdict.the-variants.{Fine, Refuse}
+use Rattle.frame.specs.declared.Verdict.{Verdict}
 use Rattle.frame.specs.Valid.{Valid}
 use Rattle.frame.specs.declared.Meaning.{Meaning}
 use Rattle.octets.proofs.Below.{and-true}
@@ -107,15 +109,15 @@ unfolding aRoom
 room-enough = omega arith
 
 -- a step that forwards has found nothing wrong with its settings
-forwards-set : (k : Setting) (remembered s : List ℕ) (room : ℕ) → Forwards k remembered (heard k s room) → firstOf (settingTests k room) ≡ pass
+forwards-set : (k : Setting) (remembered s : List ℕ) (room : ℕ) → Forwards k remembered (heard k s room) → firstOf (settingTests k room) ≡ Fine
 unfolding heard
 forwards-set k remembered s room = go (firstOf (settingTests k room))
   where
-    go : (v : Verdict) → Forwards k remembered (after v (readBy (fromIp k) s)) → v ≡ pass
-    go pass f = refl
-    go (refuse r) f = absurd f
+    go : (v : Verdict) → Forwards k remembered (after v (readBy (fromIp k) s)) → v ≡ Fine
+    go Fine f = refl
+    go (Refuse r) f = absurd f
 
-module _ (w : AtWork) (ok : firstOf (siteTests (w .stores) (w .site)) ≡ pass) (x : Crossing) where
+module _ (w : AtWork) (ok : firstOf (siteTests (w .stores) (w .site)) ≡ Fine) (x : Crossing) where
   abbrev fitting : List ℕ
   fitting = ownCoupler w (x .line)
 
@@ -199,7 +201,7 @@ module _ (w : AtWork) (ok : firstOf (siteTests (w .stores) (w .site)) ≡ pass) 
         }
 
 -- there is no coupler of 00h: the backbone is IP exactly if it is meant to be
-pub backbone-ip : (w : AtWork) → firstOf (siteTests (w .stores) (w .site)) ≡ pass → isIp w 0 ≡ w .meantIp 0
+pub backbone-ip : (w : AtWork) → firstOf (siteTests (w .stores) (w .site)) ≡ Fine → isIp w 0 ≡ w .meantIp 0
 backbone-ip w ok =
     by-cases (isFitted (ownCoupler w 0))
     (λ e. absurd (fitted-line (w .stores) 0 (ownCoupler w 0) (fitted-set (w .stores) (w .site) ok 0 e) refl))

@@ -13,7 +13,8 @@ use borrow.Author.Tests.{eqb-false, not-true, ne-eqb}
 use Rattle.coupler.specs.Passing.{hopped}
 use Rattle.coupler.specs.Step.{readBy, forwardedMeaning, frame}
 use Rattle.frame.proofs.Valid.{ranges-of, ranged}
-use Rattle.frame.specs.Order.{firstOf, pass}
+use Rattle.frame.specs.Order.{firstOf}
+use Rattle.frame.specs.declared.Verdict.the-variants.{Fine}
 use Rattle.frame.specs.Valid.{Valid}
 use Rattle.frame.specs.declared.Meaning.{Meaning}
 use Rattle.octets.proofs.Below.{and-true}
@@ -36,7 +37,7 @@ use Rattle.tracer.specs.Listing.{crossingPasses, isListed, onArrival, is
 forwarded-with : (m : Meaning) (k : ℕ) → m .first ≡ true → forwardedMeaning (withCount k m) ≡ withCount (hopped k) m
 forwarded-with m k e = let f : true ≡ m .first = sym e in λ i. record { extended = m .extended; first = f i; priority = m .priority; source = m .source; group = m .group; destination = m .destination; count = hopped k }
 
-module _ (w : AtWork) (ok : firstOf (siteTests (w .stores) (w .site)) ≡ pass) (start : ℕ) (m : Meaning) (p : List ℕ) (v : Valid m p) (new : m .first ≡ true) where
+module _ (w : AtWork) (ok : firstOf (siteTests (w .stores) (w .site)) ≡ Fine) (start : ℕ) (m : Meaning) (p : List ℕ) (v : Valid m p) (new : m .first ≡ true) where
   -- the first sending as it is after the couplers of the path to a line, and its form there
   abbrev onLine : ℕ → Meaning
   onLine t = withCount (onArrival (m .count) (distance start t)) m

@@ -6,7 +6,7 @@ use mathlib.Core.List.{List, [], _∷_}
 use mathlib.Core.Path.{_≡_}
 use lib.Dec.{ltb, eqb}
 use lib.ListN.{length, getD}
-use Rattle.frame.specs.Order.{pass}
+use Rattle.frame.specs.declared.Verdict.the-variants.{Fine}
 use Rattle.octets.specs.Room.{over}
 use Rattle.site.specs.Stores.{Stores}
 use Rattle.site.specs.WellFormed.{isAmong}
@@ -62,5 +62,5 @@ entryBy count lines line =
 
 -- nothing refused: the list at the front of the room, "octets behind the list stay"
 pub record DidList (st : Stores) (site : List ℕ) (q : Query) (room : List ℕ) (answer : Traced) (room′ : List ℕ) : Type 0 where
-  pub answered : answer ≡ tracedBy st site q pass
-  pub left : room′ ≡ over (listBy st site q pass) room
+  pub answered : answer ≡ tracedBy st site q Fine
+  pub left : room′ ≡ over (listBy st site q Fine) room

@@ -5,7 +5,9 @@ use mathlib.Core.List.{List, [], _∷_}
 use mathlib.Core.Path.{_≡_}
 use lib.Dec.{ltb, leb}
 use lib.ListN.{length}
-use Rattle.frame.specs.Order.{Test, Verdict, firstOf, _gives_, pass, refuse}
+use Rattle.frame.specs.Order.{Test, firstOf, _gives_}
+use Rattle.frame.specs.declared.Verdict.the-variants.{Fine, Refuse}
+use Rattle.frame.specs.declared.Verdict.{Verdict}
 use Rattle.frame.specs.Refusals.{number}
 use Rattle.frame.specs.declared.Refusal.the-variants.{SmallRoom, OutOfRange}
 use Rattle.octets.specs.Room.{over}
@@ -26,12 +28,12 @@ traceTests st site q room =
 
 -- what the call answers and what stands at the front of the room: on a refusal its number and nothing
 abbrev pub tracedBy : Stores → List ℕ → Query → Verdict → Traced
-tracedBy st site q pass = record { number = 0; lines = linesListed st site q; forwardings = forwardings st site q }
-tracedBy st site q (refuse r) = record { number = number r; lines = 0; forwardings = 0 }
+tracedBy st site q Fine = record { number = 0; lines = linesListed st site q; forwardings = forwardings st site q }
+tracedBy st site q (Refuse r) = record { number = number r; lines = 0; forwardings = 0 }
 
 abbrev pub listBy : Stores → List ℕ → Query → Verdict → List ℕ
-listBy st site q pass = listed st site q
-listBy st site q (refuse r) = []
+listBy st site q Fine = listed st site q
+listBy st site q (Refuse r) = []
 
 -- "Lent octets behind the list stay."
 pub record DidTrace (st : Stores) (site : List ℕ) (q : Query) (room : List ℕ) (answer : Traced) (room′ : List ℕ) : Type 0 where

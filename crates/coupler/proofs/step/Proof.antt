@@ -5,7 +5,7 @@ use lib.ListN.{length}
 use lib.Seq.{length-take-le}
 use borrow.Author.Needs.{needs}
 use Rattle.coupler.proofs.StepLaws.{did}
-use Rattle.coupler.specs.Step.{settingOf}
+use Rattle.coupler.specs.Step.{couplerBy}
 use Rattle.coupler.proofs.step.Statement.{statement}
 use Rattle.coupler.proofs.step.Tie as tie
 
@@ -16,12 +16,20 @@ array-share-prefix-frame c =
 
 slice-aggregate-hand-on : tie.Need-slice-aggregate-hand-on
 slice-aggregate-hand-on c =
-    let size : length (c .before .before .before .side-of .result .octets) ≡ 263 = search needs in
+    let side-of = c .before .before .before .side-of in
+    let size : length (side-of .result .octets) ≡ 263 = search needs in
     sym (length-take-le _ _ (omega (arith, c .before .before .kept-of .ensures .1)))
 
 returns : tie.Need-returns
 returns c =
-    did (settingOf (c .before .before .before .before .before .before .before .before .before .before .before .before .before .args .line) (c .before .before .before .before .before .before .before .before .before .before .before .before .before .args .codes) (c .before .before .before .before .before .before .before .before .before .before .before .before .before .args .table .now) (c .before .before .before .before .before .before .before .before .before .before .before .before .before .args .side) (c .before .before .before .before .before .before .before .before .before .before .before .before .before .args .medium)) (c .before .before .before .before .before .before .before .before .before .before .before .before .before .args .memory) (c .before .before .before .before .before .before .before .before .before .before .before .before .before .args .octets .now) (c .before .before .before .before .before .before .before .before .before .side-of .ensures) (c .before .before .before .before .before .before .before .before .kept-of .ensures .0) (c .before .before .before .before .hand-on .ensures) (c .remembered-if .ensures)
+    let hand-on = c .before .before .before .before .before .before .hand-on in
+    let back = c .before .before .before .before .before .before in
+    let kept-of = back .before .before .before .before .kept-of in
+    let side-of = back .before .before .before .before .before .side-of in
+    let further = back .before .before .before .before .before .before in
+    let begun = further .before .before .before in
+    let a = begun .args in
+    did (couplerBy (a .setting) (a .codes) (a .table .now)) (a .memory) (a .octets .now) (side-of .ensures) (kept-of .ensures .0) (hand-on .ensures) (c .remembered-if .ensures)
 
 pub step-spec : {M : Type 1} → statement M
 step-spec =

@@ -6,11 +6,23 @@ use Rattle.coupler.proofs.forwarding.forward.Tie as tie
 
 returns : tie.Need-returns
 returns c =
-    rw (c .before .before .before .before .before .if1 .taken) (sent-ip (c .before .before .before .before .before .before .before .before .before .args .meaning) (c .before .before .before .before .before .before .before .before .before .args .payload .now) (c .before .before .before .before .before .before .before .before .before .args .room .now) (c .before .before .before .before .before .before .before .before .before .pre .0) (c .before .before .before .before .before .before .before .before .before .pre .1) (rw (c .before .before .before .before .before .before .forwarded-meaning .ensures) at (c .before .before .before .write .ensures)) (c .put-size .ensures))
+    let write = c .before .before .before .write in
+    let if1 = c .before .before .before .before .before .if1 in
+    let forwarded-meaning = c .before .before .before .before .before .before .forwarded-meaning in
+    let back = c .before .before .before .before .before .before in
+    let begun = back .before .before .before in
+    let a = begun .args in
+    rw (if1 .taken) (sent-ip (a .setting) (a .meaning) (a .payload .now) (a .room .now) (begun .pre .0) (begun .pre .1) (rw (forwarded-meaning .ensures) at (write .ensures)) (c .put-size .ensures))
 
 returns-2 : tie.Need-returns-2
 returns-2 c =
-    rw (c .before .before .before .before .before .if1 .left) (sent-tp1 (c .before .before .before .before .before .before .before .before .before .args .meaning) (c .before .before .before .before .before .before .before .before .before .args .payload .now) (c .before .before .before .before .before .before .before .before .before .args .room .now) (c .before .before .before .before .before .before .before .before .before .pre .0) (c .before .before .before .before .before .before .before .before .before .pre .1) (rw (c .before .before .before .before .before .before .forwarded-meaning .ensures) at (c .before .before .before .write2 .ensures)) (c .put-size2 .ensures))
+    let write2 = c .before .before .before .write2 in
+    let if1 = c .before .before .before .before .before .if1 in
+    let forwarded-meaning = c .before .before .before .before .before .before .forwarded-meaning in
+    let back = c .before .before .before .before .before .before in
+    let begun = back .before .before .before in
+    let a = begun .args in
+    rw (if1 .left) (sent-tp1 (a .setting) (a .meaning) (a .payload .now) (a .room .now) (begun .pre .0) (begun .pre .1) (rw (forwarded-meaning .ensures) at (write2 .ensures)) (c .put-size2 .ensures))
 
 pub forward-spec : {M : Type 1} → statement M
 forward-spec =
@@ -21,7 +33,6 @@ forward-spec =
     (λ c κs. search needs)
     (λ c κs. search needs)
     (λ c κs. search needs)
-    -- what each arm leaves
     (λ c. search needs)
     returns
     (λ c. search needs)

@@ -5,11 +5,7 @@ use Rattle.coupler.proofs.forwarding.forwarded_meaning.Tie as tie
 
 returns : tie.Need-returns
 returns c =
-    rw (c .hopped-count .ensures)
+    rw (c .hopped .ensures)
 
 pub forwarded-meaning-spec : {M : Type 1} → statement M
-forwarded-meaning-spec =
-    tie.close
-    (tie.spec
-    (λ c κs. search needs)
-    returns)
+forwarded-meaning-spec = tie.close (tie.spec (λ c κs. search needs) returns)

@@ -7,8 +7,8 @@ use Rattle.cemi.specs.declared.Codes.the-variants.{IndicationOnly}
 use Rattle.coupler.specs.Hearing.{meaningOnly}
 use Rattle.frame.proofs.Order.{first-passed, first-refused}
 use Rattle.octets.proofs.Split.{rest-is}
-use Rattle.routing.proofs.HeaderLaws.{header-right, header-wrong, header-least}
-use Rattle.routing.specs.Header.{headerTests}
+use Rattle.knxnetip.proofs.HeaderLaws.{header-verdict, header-least}
+use Rattle.knxnetip.specs.Header.{headerTests}
 use Rattle.routing.specs.Layout.{routingService}
 use Rattle.routing.specs.Reading.{readRouting}
 use Rattle.coupler.proofs.forwarding.hear_datagram.Statement.{statement}
@@ -26,13 +26,13 @@ returns : tie.Need-returns
 unfolding readRouting
 returns c =
     let s = c .before .before .before .before .before .args .octets .now in
-    rw (first-refused (headerTests routingService s) (cemiTests IndicationOnly (drop 6 s)) _ (header-wrong routingService s _ (sym (c .before .before .before .read-header .ensures) ∙ c .before .header .given .1)))
+    rw (first-refused (headerTests routingService s) (cemiTests IndicationOnly (drop 6 s)) _ (header-verdict routingService s (sym (c .before .before .before .read-header .ensures) ∙ c .before .header .given .1)))
 
 returns-2 : tie.Need-returns-2
 unfolding readRouting readCemi
 returns-2 c =
     let s = c .before .before .before .before .before .before .before .args .octets .now in
-    rw (first-passed (headerTests routingService s) (cemiTests IndicationOnly (drop 6 s)) (header-right routingService s (sym (c .before .before .before .before .before .read-header .ensures) ∙ c .before .before .before .enum-told .given .1))) (c .meaning-only .ensures ∙ ap meaningOnly (rw (rest-is 6 s) at (c .before .read .ensures)))
+    rw (first-passed (headerTests routingService s) (cemiTests IndicationOnly (drop 6 s)) (header-verdict routingService s (sym (c .before .before .before .before .before .read-header .ensures) ∙ c .before .before .before .enum-told .given .1))) (c .meaning-only .ensures ∙ ap meaningOnly (rw (rest-is 6 s) at (c .before .read .ensures)))
 
 pub hear-datagram-spec : {M : Type 1} → statement M
 hear-datagram-spec =

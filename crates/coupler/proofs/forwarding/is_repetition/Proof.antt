@@ -1,4 +1,4 @@
--- A first sending is none; otherwise the remembered frame's fields, as `meaning_in` hands them out.
+-- A first sending is none; otherwise the fields of both, as `meaning_in` hands them out.
 use borrow.Author.Needs.{needs}
 use Rattle.coupler.specs.Memory.{isRepetition}
 use Rattle.coupler.proofs.forwarding.is_repetition.Statement.{statement}
@@ -7,17 +7,14 @@ use Rattle.coupler.proofs.forwarding.is_repetition.Tie as tie
 returns : tie.Need-returns
 unfolding isRepetition
 returns c =
-    rw (c .if1 .taken)
+    rw (← c .before .meaning-in .ensures, c .if1 .taken)
 
 returns-2 : tie.Need-returns-2
 unfolding isRepetition
 returns-2 c =
-    rw (c .before .before .before .before .before .before .before .if1 .left, c .before .before .before .before .before .before .meaning-in .ensures)
+    let meaning-in2 = c .before .before .before .before .before .before .meaning-in2 in
+    let back = c .before .before .before .before .before .before in
+    rw (← back .before .before .meaning-in .ensures, back .before .if1 .left, ← meaning-in2 .ensures)
 
 pub is-repetition-spec : {M : Type 1} → statement M
-is-repetition-spec =
-    tie.close
-    (tie.spec
-    returns
-    (λ c κs. search needs)
-    returns-2)
+is-repetition-spec = tie.close (tie.spec (λ c κs. search needs) returns (λ c κs. search needs) returns-2)

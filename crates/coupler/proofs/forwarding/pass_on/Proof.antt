@@ -7,18 +7,35 @@ use Rattle.coupler.proofs.forwarding.pass_on.Tie as tie
 
 returns : tie.Need-returns
 returns c =
-    let f = ap (λ (b : Bool). b && not (c .before .before .before .before .before .before .before .before .before .before .before .args .repetition)) (sym (c .before .before .before .before .before .before .is-allowed .ensures)) ∙ c .before .before .before .before .if1 .taken in
-    record { outcome = rw (c .before .before .before .before .before .acknowledgement .ensures, c .before .before .before .before .before .before .before .is-own .ensures, c .before .before .before .before .before .before .is-allowed .ensures, f, c .before .before .forward .ensures .count); left = rw f (c .before .before .forward .ensures .left) }
+    let forward = c .before .before .forward in
+    let if1 = c .before .before .before .before .before .before .if1 in
+    let back = c .before .before .before .before .before .before in
+    let is-allowed = back .before .before .before .before .is-allowed in
+    let is-own = back .before .before .before .before .before .is-own in
+    let kind-of = back .before .before .before .before .before .before .kind-of in
+    let further = back .before .before .before .before .before .before in
+    let begun = further .before .before .before .before in
+    let forwards = ap (λ (b : Bool). b && not (begun .args .repetition)) (sym (is-allowed .ensures)) ∙ if1 .taken in
+    record {
+      outcome = rw (back .before .acknowledgement .ensures, is-own .ensures, kind-of .ensures, is-allowed .ensures, forwards, forward .ensures .count);
+      left = rw forwards (forward .ensures .left);
+    }
 
 returns-2 : tie.Need-returns-2
 returns-2 c =
-    let f = ap (λ (b : Bool). b && not (c .before .before .before .before .before .before .before .args .repetition)) (sym (c .before .before .is-allowed .ensures)) ∙ c .if1 .left in
-    record { outcome = rw (c .before .acknowledgement .ensures, c .before .before .before .is-own .ensures, c .before .before .is-allowed .ensures, f); left = rw f refl }
+    let is-allowed = c .before .before .before .before .is-allowed in
+    let is-own = c .before .before .before .before .before .is-own in
+    let kind-of = c .before .before .before .before .before .before .kind-of in
+    let back = c .before .before .before .before .before .before in
+    let begun = back .before .before .before .before in
+    let stops = ap (λ (b : Bool). b && not (begun .args .repetition)) (sym (is-allowed .ensures)) ∙ c .if1 .left in
+    record { outcome = rw (c .before .acknowledgement .ensures, is-own .ensures, kind-of .ensures, is-allowed .ensures, stops); left = rw stops refl }
 
 pub pass-on-spec : {M : Type 1} → statement M
 pass-on-spec =
     tie.close
     (tie.spec
+    (λ c κs. search needs)
     (λ c κs. search needs)
     (λ c κs. search needs)
     (λ c κs. search needs)

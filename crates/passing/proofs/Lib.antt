@@ -1,0 +1,2 @@
+pub mod PassingLaws
+pub mod Answers
