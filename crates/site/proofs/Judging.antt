@@ -7,9 +7,7 @@ use native.Mathlib.Omega.{arith}
 use lib.ListN.{length, getD, drop, set, length-set, replicate, getD-replicate}
 use lib.Seq.{getD-set-same, getD-set-other}
 use borrow.Author.Tests.{eq-eqb, ne-eqb}
-use Rattle.coupler.proofs.StepLaws.{judged-fine, judged-refused}
-use Rattle.coupler.specs.Step.{judgedBy}
-use Rattle.coupler.specs.declared.Judged.{Judged}
+use Rattle.frame.specs.declared.Verdict.{Verdict}
 use Rattle.frame.proofs.Order.{first-passed, first-refused}
 use Rattle.frame.specs.Order.{firstOf}
 use Rattle.frame.specs.declared.Refusal.{Refusal}
@@ -18,7 +16,7 @@ use Rattle.site.specs.Records.{recordsOf, lineOf}
 use Rattle.site.specs.Stages.{recordAt}
 use Rattle.site.specs.Stores.{Stores}
 use Rattle.site.specs.WellFormed.{isAmong, recordTests, recordsTests}
-use Rattle.coupler.specs.declared.Judged.the-variants.{Fine, Refused as NotFine}
+use Rattle.frame.specs.declared.Verdict.the-variants.{Fine, Refuse}
 
 pub record Judging (st : Stores) (site : List ℕ) (seen : List Bool) (from : ℕ) : Type 0 where
   pub lines : List ℕ
@@ -37,17 +35,17 @@ judging-none st site seen e = record {
 }
 
 pub judging-all : {st : Stores} {site : List ℕ} {seen : List Bool} {from : ℕ} → Judging st site seen from → length site - from < 12
-    → Fine ≡ judgedBy (firstOf (recordsTests st [] (recordsOf site)))
+    → Fine ≡ (firstOf (recordsTests st [] (recordsOf site)))
 judging-all {site = site} {from = from} w h = rw (w .left, records-end site from h) refl
 
 module _ {st : Stores} {site : List ℕ} {seen : List Bool} {from : ℕ} (w : Judging st site seen from) (h : 12 ≤ length site - from)
     {octets : List ℕ} {line : ℕ} (r : octets ≡ recordAt site from) (l : line ≡ lineOf octets) (b : line < 256)
-    {judged : Judged} (j : judged ≡ judgedBy (firstOf (recordTests st (getD seen line false) octets))) where
+    {judged : Verdict} (j : judged ≡ (firstOf (recordTests st (getD seen line false) octets))) where
   among : getD seen line false ≡ isAmong (lineOf octets) (w .lines)
   among = w .each line b ∙ ap (λ (n : ℕ). isAmong n (w .lines)) l
 
-  verdict : judged ≡ judgedBy (firstOf (recordTests st (isAmong (lineOf octets) (w .lines)) octets))
-  verdict = j ∙ ap (λ (t : Bool). judgedBy (firstOf (recordTests st t octets))) among
+  verdict : judged ≡ (firstOf (recordTests st (isAmong (lineOf octets) (w .lines)) octets))
+  verdict = j ∙ ap (λ (t : Bool). (firstOf (recordTests st t octets))) among
 
   unrolled : firstOf (recordsTests st [] (recordsOf site))
       ≡ firstOf (recordTests st (isAmong (lineOf octets) (w .lines)) octets ++ recordsTests st (lineOf octets ∷ w .lines) (recordsOf (drop (from + 12) site)))
@@ -64,11 +62,11 @@ module _ {st : Stores} {site : List ℕ} {seen : List Bool} {from : ℕ} (w : Ju
         each = λ n hn. by-equal line n
             (λ e. rw (← l, eq-eqb line n e, ← e) (getD-set-same seen line true false (omega (arith, w .size))))
             (λ e. rw (← l, ne-eqb line n e) (getD-set-other seen line n true false (λ y. e (sym y)) ∙ w .each n hn));
-        left = unrolled ∙ first-passed ts us (judged-fine (firstOf ts) (sym f ∙ verdict));
+        left = unrolled ∙ first-passed ts us (sym verdict ∙ f);
       }
 
-  pub judging-refused : (q : Refusal) → judged ≡ NotFine q → judged ≡ judgedBy (firstOf (recordsTests st [] (recordsOf site)))
+  pub judging-refused : (q : Refusal) → judged ≡ Refuse q → judged ≡ (firstOf (recordsTests st [] (recordsOf site)))
   judging-refused q f =
       let ts = recordTests st (isAmong (lineOf octets) (w .lines)) octets in
       let us = recordsTests st (lineOf octets ∷ w .lines) (recordsOf (drop (from + 12) site)) in
-      f ∙ ap judgedBy (sym (unrolled ∙ first-refused ts us q (judged-refused (firstOf ts) q (sym f ∙ verdict))))
+      f ∙ sym (unrolled ∙ first-refused ts us q (sym verdict ∙ f))

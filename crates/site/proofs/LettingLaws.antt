@@ -8,10 +8,11 @@ use lib.Dec.{eqb}
 use lib.ListN.{length, getD, drop, set, length-set, replicate, getD-replicate}
 use lib.Seq.{getD-set-same, getD-set-other, ext-getD}
 use borrow.Author.Tests.{lt-leb, eq-eqb, ne-eqb}
-use Rattle.coupler.proofs.PassingLaws.{passes-iff}
-use Rattle.coupler.specs.Passing.{isRuled, mayPass, passageOf, doesPass}
-use Rattle.coupler.specs.declared.Passage.the-variants.{NotFitted}
-use Rattle.coupler.specs.declared.Passage.{Passage}
+use Rattle.passing.proofs.PassingLaws.{passes-iff}
+use Rattle.passing.specs.Settings.{classOf}
+use Rattle.passing.specs.Passing.{isRuled, mayPass, passageOf, doesPass}
+use Rattle.passing.specs.declared.Passage.the-variants.{NotFitted}
+use Rattle.passing.specs.declared.Passage.{Passage}
 use Rattle.site.proofs.RecordLaws.{records-more, records-end, by-equal}
 use Rattle.site.specs.Letting.{recordPasses, letsPass, lineLetsPass, Marks, MarksBothWays, passageBy, passageAt}
 use Rattle.site.specs.declared.BothWays.{BothWays}
@@ -63,34 +64,34 @@ marking-more {f} {site} {marks} {from} w h {octets} {line} {mark} r l b m = reco
       ∙ ap (λ (x : Bool). answersIn f n x rest) c;
 }
 
-pub marking-all : (st : Stores) (group : Bool) (destination direction : ℕ) {site : List ℕ} {marks : List Bool} {from : ℕ}
-    → Marking (letsPass st group destination direction) site marks from → length site - from < 12 → Marks (lineLetsPass st group destination (recordsOf site) direction) marks
+pub marking-all : (st : Stores) (kind destination direction : ℕ) {site : List ℕ} {marks : List Bool} {from : ℕ}
+    → Marking (letsPass st kind destination direction) site marks from → length site - from < 12 → Marks (lineLetsPass st kind destination (recordsOf site) direction) marks
 unfolding lineLetsPass
-marking-all st group destination direction {site} {marks} {from} w h = record {
+marking-all st kind destination direction {site} {marks} {from} w h = record {
   size = w .size;
   each = λ n hn. sym (rw (records-end site from h) at (w .each n hn));
 }
 
 -- the coupler's own test, with what the record says: of a group ..
-pub group-asked : (st : Stores) (destination direction : ℕ) (octets : List ℕ) {group : Bool} {line number : ℕ} {codes : List (List ℕ)} {table : List ℕ} {mark : Bool}
-    → group ≡ true → line ≡ lineOf octets → codes ≡ codesOf octets → number ≡ tableNumber octets → table ≡ tableOf number st
-    → mark ≡ mayPass line codes table direction true destination → mark ≡ recordPasses st group destination direction octets
+pub group-asked : (st : Stores) (destination direction : ℕ) (octets : List ℕ) {kind line number : ℕ} {codes : List (List ℕ)} {table : List ℕ} {mark : Bool}
+    → kind ≡ 1 → line ≡ lineOf octets → codes ≡ codesOf octets → number ≡ tableNumber octets → table ≡ tableOf number st
+    → mark ≡ mayPass line codes table direction 1 destination → mark ≡ recordPasses st kind destination direction octets
 unfolding recordPasses
 group-asked st destination direction octets g l k n t m = m ∙ rw (g, l, k, t, n) refl
 
 -- .. and of an individual address, whatever the table
-pub individual-asked : (st : Stores) (destination direction : ℕ) (octets : List ℕ) {group : Bool} {line : ℕ} {codes : List (List ℕ)} (table : List ℕ) {mark : Bool}
-    → group ≡ false → line ≡ lineOf octets → codes ≡ codesOf octets → mark ≡ mayPass line codes table direction false destination
-    → mark ≡ recordPasses st group destination direction octets
-unfolding recordPasses mayPass isRuled
-individual-asked st destination direction octets table g l k m = m ∙ rw (g, l, k) refl
+pub individual-asked : (st : Stores) (destination direction : ℕ) (octets : List ℕ) {kind line : ℕ} {codes : List (List ℕ)} (table : List ℕ) {mark : Bool}
+    → (kind ≡ 1 → ⊥) → line ≡ lineOf octets → codes ≡ codesOf octets → mark ≡ mayPass line codes table direction kind destination
+    → mark ≡ recordPasses st kind destination direction octets
+unfolding recordPasses mayPass isRuled classOf
+individual-asked st destination direction octets {kind} table g l k m = m ∙ rw (l, k, ne-eqb kind 1 g) refl
 
 pub two-marks : {a a′ b b′ : Bool} → a ≡ a′ → b ≡ b′ → (a ∷ b ∷ []) ≡ (a′ ∷ b′ ∷ [])
 two-marks x y = rw (x, y) refl
 
-pub lets-whole : (st : Stores) (group : Bool) (destination direction : ℕ) (octets : List ℕ) → length octets ≡ 12
-    → recordPasses st group destination direction octets ≡ letsPass st group destination direction octets
-lets-whole st group destination direction octets h = rw h refl
+pub lets-whole : (st : Stores) (kind destination direction : ℕ) (octets : List ℕ) → length octets ≡ 12
+    → recordPasses st kind destination direction octets ≡ letsPass st kind destination direction octets
+lets-whole st kind destination direction octets h = rw h refl
 
 -- the record that is found
 pub record Seeking (line : ℕ) (site : List ℕ) (found from : ℕ) : Type 0 where
@@ -120,20 +121,20 @@ pub seeking-all : {line : ℕ} {site : List ℕ} {found from : ℕ} → Seeking 
 seeking-all {site = site} {from = from} w h e = e ∙ sym (rw (records-end site from h) at (w .so-far))
 
 -- a coupler makes nothing of a telegram to stop it exactly if it is fitted, lets it pass, and the count is not used up
-pub passage-lets : (st : Stores) (group : Bool) (destination : ℕ) (records : List (List ℕ)) (direction line count : ℕ)
-    → doesPass (passageAt st group destination records direction line count) ≡ lineLetsPass st group destination records direction line && not (eqb count 0)
+pub passage-lets : (st : Stores) (kind destination : ℕ) (records : List (List ℕ)) (direction line count : ℕ)
+    → doesPass (passageAt st kind destination records direction line count) ≡ lineLetsPass st kind destination records direction line && not (eqb count 0)
 unfolding passageAt passageBy lineLetsPass recordPasses
-passage-lets st group destination records direction line count = pick (couplerOf line records)
+passage-lets st kind destination records direction line count = pick (couplerOf line records)
   where
     by-fitted : (b : Bool) (p : Passage) (m n : Bool) → doesPass p ≡ m && n → doesPass (cond b p NotFitted) ≡ (b && m) && n
     by-fitted true p m n e = e
     by-fitted false p m n e = refl
 
-    pick : (r : List ℕ) → doesPass (passageBy st group destination direction count r) ≡ letsPass st group destination direction r && not (eqb count 0)
+    pick : (r : List ℕ) → doesPass (passageBy st kind destination direction count r) ≡ letsPass st kind destination direction r && not (eqb count 0)
     pick r =
         let table = tableOf (tableNumber r) st in
-        by-fitted (isFitted r) (passageOf (lineOf r) (codesOf r) table direction group destination count) (mayPass (lineOf r) (codesOf r) table direction group destination) (not (eqb count 0))
-        (passes-iff (lineOf r) (codesOf r) table direction group destination count)
+        by-fitted (isFitted r) (passageOf (lineOf r) (codesOf r) table direction kind destination count) (mayPass (lineOf r) (codesOf r) table direction kind destination) (not (eqb count 0))
+        (passes-iff (lineOf r) (codesOf r) table direction kind destination count)
 
 -- the marks are determined
 marks-one : {f : ℕ → Bool} {a b : List Bool} → Marks f a → Marks f b → a ≡ b

@@ -9,7 +9,7 @@ use lib.Dec.{eqb}
 use lib.ListN.{length, take, drop}
 use borrow.Author.Tests.{eqb-true, not-false, eq-eqb, ne-eqb}
 use Rattle.frame.specs.Order.{NoneOf}
-use Rattle.coupler.specs.Settings.{areCodes}
+use Rattle.passing.specs.Settings.{areCodes}
 use Rattle.octets.proofs.Octets.{octets-take, octets-drop}
 use Rattle.octets.specs.Octets.{Octets}
 use Rattle.site.proofs.RecordLaws.{by-equal}

@@ -8,17 +8,14 @@ use mathlib.Core.Path.{_≡_, refl, sym, ap}
 use native.Mathlib.Omega.{arith}
 use lib.Dec.{leb}
 use borrow.Author.Tests.{leb-true, ne-eqb}
-use Rattle.coupler.proofs.StepLaws.{judged-fine, judged-refused}
-use Rattle.coupler.specs.Step.{judgedBy}
 use Rattle.frame.specs.Order.{Test, firstOf, NoneOf, FirstIs, _gives_}
-use Rattle.frame.specs.declared.Verdict.the-variants.{Refuse}
 use Rattle.frame.specs.Refusals.{number}
 use Rattle.frame.specs.declared.Refusal.{Refusal}
 use Rattle.octets.proofs.Below.{and-true}
 use Rattle.site.specs.Records.{recordsOf, lineOf}
 use Rattle.site.specs.Stores.{Stores}
 use Rattle.site.specs.WellFormed.{recordsTests, siteTests}
-use Rattle.coupler.specs.declared.Judged.the-variants.{Fine, Refused as NotFine}
+use Rattle.frame.specs.declared.Verdict.the-variants.{Fine, Refuse}
 use Rattle.frame.proofs.Order.{passed-iff, refused-iff as order-iff, givesNot, once-iff}
 
 -- every test gives 15, 16, 17 or 18
@@ -34,17 +31,11 @@ pub site-are : (st : Stores) (site : List ℕ) → areSites (siteTests st site) 
 unfolding siteTests
 site-are st site = records-are st [] (recordsOf site)
 
-pub well-formed-iff : (st : Stores) (site : List ℕ) → judgedBy (firstOf (siteTests st site)) ≡ Fine ↔ NoneOf (siteTests st site)
-well-formed-iff st site = (
-  (λ e. passed-iff (siteTests st site) .0 (judged-fine (firstOf (siteTests st site)) (sym e))),
-  (λ n. ap judgedBy (passed-iff (siteTests st site) .1 n)),
-)
+pub well-formed-iff : (st : Stores) (site : List ℕ) → firstOf (siteTests st site) ≡ Fine ↔ NoneOf (siteTests st site)
+well-formed-iff st site = passed-iff (siteTests st site)
 
-pub refused-iff : (st : Stores) (site : List ℕ) (r : Refusal) → judgedBy (firstOf (siteTests st site)) ≡ NotFine r ↔ FirstIs (siteTests st site) r
-refused-iff st site r = (
-  (λ e. order-iff (siteTests st site) r .0 (judged-refused (firstOf (siteTests st site)) r (sym e))),
-  (λ f. ap judgedBy (order-iff (siteTests st site) r .1 f)),
-)
+pub refused-iff : (st : Stores) (site : List ℕ) (r : Refusal) → firstOf (siteTests st site) ≡ Refuse r ↔ FirstIs (siteTests st site) r
+refused-iff st site = order-iff (siteTests st site)
 
 numbered-by : (ts : List Test) (r : Refusal) → areSites ts ≡ true → firstOf ts ≡ Refuse r → (15 ≤ number r) × (number r ≤ 18)
 numbered-by [] r a e = let z : _≡_ {A = ℕ} 0 1 = cc in absurd (omega arith)

@@ -12,5 +12,5 @@ unfoldable pub recordAt : List ℕ → ℕ → List ℕ
 recordAt site from = cond (leb (from + 12) (length site)) (take 12 (drop from site)) []
 
 -- a record's coupler asked both ways
-abbrev pub recordBothWays : Stores → Bool → ℕ → List ℕ → List Bool
-recordBothWays st group destination r = recordPasses st group destination 0 r ∷ recordPasses st group destination 1 r ∷ []
+abbrev pub recordBothWays : Stores → ℕ → ℕ → List ℕ → List Bool
+recordBothWays st kind destination r = recordPasses st kind destination 0 r ∷ recordPasses st kind destination 1 r ∷ []

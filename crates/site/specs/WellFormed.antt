@@ -5,7 +5,7 @@ use mathlib.Core.Bool.{Bool, false, not, cond, _||_}
 use mathlib.Core.List.{List, [], _∷_, _++_}
 use lib.Dec.{eqb}
 use lib.ListN.{length}
-use Rattle.coupler.specs.Settings.{areCodes, asksTable}
+use Rattle.passing.specs.Settings.{areCodes, asksTable}
 use Rattle.frame.specs.Order.{Test, _gives_}
 use Rattle.frame.specs.declared.Refusal.the-variants.{WrongSetting, WrongRecord, LineTwice, NoTable}
 use Rattle.site.specs.Records.{recordsOf, isMarked, lineOf, codesOf, tableNumber}

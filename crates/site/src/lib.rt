@@ -6,15 +6,14 @@ pub mod stores;
 ghost use mathlib.Core.Path.{_≡_};
 ghost use mathlib.Core.List.{[]};
 ghost use Rattle.frame.specs.Order.{firstOf};
-ghost use Rattle.coupler.specs.Step.{judgedBy};
 ghost use Rattle.site.specs.Stores.{stores};
 ghost use Rattle.site.specs.Records.{recordsOf};
 ghost use Rattle.site.specs.WellFormed.{hasTable, recordTests, recordsTests, siteTests};
 ghost use Rattle.site.specs.Stages.{recordBothWays};
 ghost use Rattle.site.specs.Letting.{lineLetsPass, MarksBothWays, passageAt};
-use coupler::Judged;
-use coupler::Passage;
 use frame::Refusal;
+use frame::Verdict;
+use passing::Passage;
 
 // A mark for each of the 256 lines, of its coupler: main to sub and sub to main.
 pub struct BothWays {
@@ -28,7 +27,7 @@ fn has_table<'a>(octets: &[u8], project: &'a [u8], own: &'a [u8]) -> bool
 {
     let number = records::table_number(octets);
     if number == 0xff {
-        let asks = coupler::settings::asks_table(records::codes_of(octets));
+        let asks = passing::settings::asks_table(records::codes_of(octets));
         !asks
     } else {
         let table = stores::table_of(number, project, own);
@@ -36,31 +35,31 @@ fn has_table<'a>(octets: &[u8], project: &'a [u8], own: &'a [u8]) -> bool
     }
 }
 
-fn judge_record<'a>(octets: &[u8], project: &'a [u8], own: &'a [u8], twice: bool) -> Judged
-    ensures { λ r. ⌜ r ≡ judgedBy (firstOf (recordTests (stores (now (project .entry)) (now (own .entry))) twice (now (octets .entry)))) ⌝ }
+fn judge_record<'a>(octets: &[u8], project: &'a [u8], own: &'a [u8], twice: bool) -> Verdict
+    ensures { λ r. ⌜ r ≡ firstOf (recordTests (stores (now (project .entry)) (now (own .entry))) twice (now (octets .entry))) ⌝ }
 {
     if records::is_marked(octets) {
-        let allowed = coupler::settings::are_codes(records::codes_of(octets));
+        let allowed = passing::settings::are_codes(records::codes_of(octets));
         let wrong = (records::line_of(octets) == 0) | !allowed;
         if wrong {
-            return Judged::Refused(Refusal::WrongSetting);
+            return Verdict::Refuse(Refusal::WrongSetting);
         }
         if has_table(octets, project, own) {
             if twice {
-                return Judged::Refused(Refusal::LineTwice);
+                return Verdict::Refuse(Refusal::LineTwice);
             }
-            Judged::Fine
+            Verdict::Fine
         } else {
-            Judged::Refused(Refusal::NoTable)
+            Verdict::Refuse(Refusal::NoTable)
         }
     } else {
-        Judged::Refused(Refusal::WrongRecord)
+        Verdict::Refuse(Refusal::WrongRecord)
     }
 }
 
 // "then record by record: 16, 15 (line, codes), 18, 17 (at the second)"
-fn judge_records<'a>(site: &[u8], project: &'a [u8], own: &'a [u8]) -> Judged
-    ensures { λ r. ⌜ r ≡ judgedBy (firstOf (recordsTests (stores (now (project .entry)) (now (own .entry))) [] (recordsOf (now (site .entry))))) ⌝ }
+fn judge_records<'a>(site: &[u8], project: &'a [u8], own: &'a [u8]) -> Verdict
+    ensures { λ r. ⌜ r ≡ firstOf (recordsTests (stores (now (project .entry)) (now (own .entry))) [] (recordsOf (now (site .entry)))) ⌝ }
 {
     let mut seen = [false; 256];
     let mut from = 0;
@@ -68,27 +67,27 @@ fn judge_records<'a>(site: &[u8], project: &'a [u8], own: &'a [u8]) -> Judged
         let octets = records::record_at(site, from);
         let line = records::line_of(octets) as usize;
         let judged = judge_record(octets, project, own, seen[line]);
-        let Judged::Fine = judged else {
+        let Verdict::Fine = judged else {
             return judged;
         };
         seen[line] = true;
         from += 12;
     }
-    Judged::Fine
+    Verdict::Fine
 }
 
 // Whether a site and its stores are well-formed, or the first refusal of document 01's order.
-pub fn judge<'a>(site: &[u8], project: &'a [u8], own: &'a [u8]) -> Judged
-    ensures { λ r. ⌜ r ≡ judgedBy (firstOf (siteTests (stores (now (project .entry)) (now (own .entry))) (now (site .entry)))) ⌝ }
+pub fn judge<'a>(site: &[u8], project: &'a [u8], own: &'a [u8]) -> Verdict
+    ensures { λ r. ⌜ r ≡ firstOf (siteTests (stores (now (project .entry)) (now (own .entry))) (now (site .entry))) ⌝ }
 {
     if stores::are_stores(project, own) {
         if site.len() % 12 == 0 {
             judge_records(site, project, own)
         } else {
-            Judged::Refused(Refusal::WrongRecord)
+            Verdict::Refuse(Refusal::WrongRecord)
         }
     } else {
-        Judged::Refused(Refusal::NoTable)
+        Verdict::Refuse(Refusal::NoTable)
     }
 }
 
@@ -98,22 +97,22 @@ fn lets_pass<'a>(
     octets: &[u8],
     project: &'a [u8],
     own: &'a [u8],
-    group: bool,
+    kind: u8,
     destination: u16,
 ) -> [bool; 2]
-    ensures { λ r. ⌜ r ≡ recordBothWays (stores (now (project .entry)) (now (own .entry))) group destination (now (octets .entry)) ⌝ }
+    ensures { λ r. ⌜ r ≡ recordBothWays (stores (now (project .entry)) (now (own .entry))) kind destination (now (octets .entry)) ⌝ }
 {
     let line = records::line_of(octets);
     let codes = records::codes_of(octets);
-    if group {
+    if kind == 1 {
         let table = stores::table_of(records::table_number(octets), project, own);
-        let down = coupler::may_pass(line, codes, table, 0, true, destination);
-        let up = coupler::may_pass(line, codes, table, 1, true, destination);
+        let down = passing::may_pass(line, codes, table, 0, 1, destination);
+        let up = passing::may_pass(line, codes, table, 1, 1, destination);
         [down, up]
     } else {
         let none = &own[..0];
-        let down = coupler::may_pass(line, codes, none, 0, false, destination);
-        let up = coupler::may_pass(line, codes, none, 1, false, destination);
+        let down = passing::may_pass(line, codes, none, 0, kind, destination);
+        let up = passing::may_pass(line, codes, none, 1, kind, destination);
         [down, up]
     }
 }
@@ -124,10 +123,10 @@ pub fn letting<'a>(
     site: &[u8],
     project: &'a [u8],
     own: &'a [u8],
-    group: bool,
+    kind: u8,
     destination: u16,
 ) -> BothWays
-    ensures { λ r. ⌜ MarksBothWays (lineLetsPass (stores (now (project .entry)) (now (own .entry))) group destination (recordsOf (now (site .entry)))) r ⌝ }
+    ensures { λ r. ⌜ MarksBothWays (lineLetsPass (stores (now (project .entry)) (now (own .entry))) kind destination (recordsOf (now (site .entry)))) r ⌝ }
 {
     let mut down = [false; 256];
     let mut up = [false; 256];
@@ -135,7 +134,7 @@ pub fn letting<'a>(
     while site.len() - from >= 12 {
         let octets = records::record_at(site, from);
         let line = records::line_of(octets) as usize;
-        let passes = lets_pass(octets, project, own, group, destination);
+        let passes = lets_pass(octets, project, own, kind, destination);
         down[line] = passes[0];
         up[line] = passes[1];
         from += 12;
@@ -150,11 +149,11 @@ pub fn why_not<'a>(
     own: &'a [u8],
     line: u8,
     direction: u8,
-    group: bool,
+    kind: u8,
     destination: u16,
     count: u8,
 ) -> Passage
-    ensures { λ r. ⌜ r ≡ passageAt (stores (now (project .entry)) (now (own .entry))) group destination (recordsOf (now (site .entry))) direction line count ⌝ }
+    ensures { λ r. ⌜ r ≡ passageAt (stores (now (project .entry)) (now (own .entry))) kind destination (recordsOf (now (site .entry))) direction line count ⌝ }
 {
     let octets = records::coupler_of(site, line);
     if octets.len() == 0 {
@@ -162,12 +161,12 @@ pub fn why_not<'a>(
     }
     let codes = records::codes_of(octets);
     let table = stores::table_of(records::table_number(octets), project, own);
-    coupler::why_not(
+    passing::why_not(
         records::line_of(octets),
         codes,
         table,
         direction,
-        group,
+        kind,
         destination,
         count,
     )

@@ -14,11 +14,11 @@ use Rattle.site.proofs.letting.Statement.{statement}
 use Rattle.site.proofs.letting.Tie as tie
 
 abbrev Inv-loop : tie.InvT-loop
-Inv-loop site project own group destination down₀ up₀ from₀ down up from =
-    Marking (letsPass (stores project own) group destination 0) site down from × Marking (letsPass (stores project own) group destination 1) site up from
+Inv-loop site project own kind destination down₀ up₀ from₀ down up from =
+    Marking (letsPass (stores project own) kind destination 0) site down from × Marking (letsPass (stores project own) kind destination 1) site up from
 
 abbrev μ-loop : tie.MeasureT-loop
-μ-loop site project own group destination down₀ up₀ from₀ down up from =
+μ-loop site project own kind destination down₀ up₀ from₀ down up from =
     length site - from
 
 loop-holds : tie.Need-loop-holds Inv-loop μ-loop
