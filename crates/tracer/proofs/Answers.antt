@@ -8,10 +8,10 @@ use native.Mathlib.Omega.{arith}
 use lib.Dec.{eqb}
 use lib.ListN.{length, getD}
 use borrow.Author.Tests.{leb-true, eqb-false}
-use Rattle.coupler.proofs.Answers.{passage-apart, passage-zero, passage-most}
-use Rattle.coupler.specs.Answers.{passageNumber}
-use Rattle.coupler.specs.Passing.{doesPass}
-use Rattle.coupler.specs.declared.Passage.{Passage}
+use Rattle.passing.proofs.Answers.{passage-apart, passage-zero, passage-most}
+use Rattle.passing.specs.Answers.{passageNumber}
+use Rattle.passing.specs.Passing.{doesPass}
+use Rattle.passing.specs.declared.Passage.{Passage}
 use Rattle.frame.proofs.Answers.{Split, Tells, answers, refuses, tells}
 use Rattle.frame.specs.Answers.{accepted}
 use Rattle.frame.specs.Order.{firstOf, answerBy}
@@ -22,7 +22,7 @@ use Rattle.site.specs.Records.{recordsOf}
 use Rattle.site.specs.Stores.{Stores}
 use Rattle.tracer.specs.Answers.{explanationNumbered}
 use Rattle.tracer.specs.Lines.{Crossing, path}
-use Rattle.tracer.specs.Listing.{Query}
+use Rattle.tracer.specs.declared.Query.{Query}
 use Rattle.tracer.specs.Why.{goesBy, walked, whyBy, whyOf, whyTests, answerWhy}
 use Rattle.tracer.specs.declared.Explanation.the-variants.{Reached, NotReached, Refused}
 use Rattle.tracer.specs.declared.Explanation.{Explanation}
@@ -67,7 +67,7 @@ explanation-tells = tells telling Refused toldValues explanationNumbered split t
 -- a walk over a path is no refusal
 pub why-answers : (st : Stores) (site : List ℕ) (q : Query) (line : ℕ) → explanationNumbered (whyOf st site q line) ≡ accepted (explanationNumbered (whyOf st site q line) .values)
 unfolding whyOf
-why-answers st site q line = go (walked st site (eqb (q .kind) 1) (q .destination) (Going (q .count)) (path (q .start) line))
+why-answers st site q line = go (walked st site q (Going (q .count)) (path (q .start) line))
   where
     go : (w : Walk) → explanationNumbered (whyBy w) ≡ accepted (explanationNumbered (whyBy w) .values)
     go (Going count) = refl
@@ -78,19 +78,19 @@ abbrev Reasoned : Walk → Type 0
 Reasoned (Going count) = Unit {0}
 Reasoned (Stopped stop) = doesPass (stop .reason) ≡ false
 
-goes-reasoned : (count : ℕ) (x : Crossing) (p : Passage) → Reasoned (goesBy count x p)
-goes-reasoned count x p = go (doesPass p) refl
+goes-reasoned : (q : Query) (count : ℕ) (x : Crossing) (p : Passage) → Reasoned (goesBy q count x p)
+goes-reasoned q count x p = go (doesPass p) refl
   where
-    go : (b : Bool) → doesPass p ≡ b → Reasoned (goesBy count x p)
+    go : (b : Bool) → doesPass p ≡ b → Reasoned (goesBy q count x p)
     go true e = rw e tt
     go false e = rw e e
 
-module _ (st : Stores) (site : List ℕ) (group : Bool) (destination : ℕ) where
-  walked-reasoned : (w : Walk) (xs : List Crossing) → Reasoned w → Reasoned (walked st site group destination w xs)
+module _ (st : Stores) (site : List ℕ) (q : Query) where
+  walked-reasoned : (w : Walk) (xs : List Crossing) → Reasoned w → Reasoned (walked st site q w xs)
   walked-reasoned w [] h = h
   walked-reasoned (Going count) (x ∷ xs) h =
-      let p = passageAt st group destination (recordsOf site) (x .direction) (x .line) count in
-      walked-reasoned (goesBy count x p) xs (goes-reasoned count x p)
+      let p = passageAt st (q .kind) (q .destination) (recordsOf site) (x .direction) (x .line) count in
+      walked-reasoned (goesBy q count x p) xs (goes-reasoned q count x p)
   walked-reasoned (Stopped stop) (x ∷ xs) h = walked-reasoned (Stopped stop) xs h
 
 -- the first of three values is a reason's number, 1 to 7
@@ -107,8 +107,8 @@ unfolding answerWhy whyOf
 why-reason st site q line n coupler direction = go (firstOf (whyTests st site q))
   where
     w : Walk
-    w = walked st site (eqb (q .kind) 1) (q .destination) (Going (q .count)) (path (q .start) line)
+    w = walked st site q (Going (q .count)) (path (q .start) line)
 
     go : (v : Verdict) → explanationNumbered (answerBy Refused (whyBy w) v) .values ≡ n ∷ coupler ∷ direction ∷ [] → (1 ≤ n) × (n ≤ 7)
-    go Fine e = reason-by w (walked-reasoned st site (eqb (q .kind) 1) (q .destination) (Going (q .count)) (path (q .start) line) tt) n coupler direction e
+    go Fine e = reason-by w (walked-reasoned st site q (Going (q .count)) (path (q .start) line) tt) n coupler direction e
     go (Refuse r) e = let z : _≡_ {A = ℕ} 0 3 = ap length e in absurd (omega arith)

@@ -6,9 +6,10 @@ use native.Mathlib.Numerals.{add-one}
 use native.Mathlib.Omega.{arith}
 use lib.Dec.{leb, eqb}
 use borrow.Author.Tests.{leb-true, leb-false, eqb-true, eqb-false, le-leb, lt-leb, eq-eqb, ne-eqb}
-use Rattle.coupler.specs.Passing.{hopped}
 use Rattle.tracer.proofs.Paths.{by-cases}
-use Rattle.tracer.specs.Listing.{lasts, onArrival}
+use Rattle.tracer.specs.Query.{hoppedIn, onArrival}
+use Rattle.tracer.specs.Listing.{lasts}
+use Rattle.tracer.specs.declared.Query.{Query}
 
 pub lasts-none : (c : ℕ) → lasts c 0 ≡ true
 unfolding lasts
@@ -20,9 +21,10 @@ unfolding lasts
 lasts-less c d k = by-cases (eqb c 7) (λ e. rw e (λ h. h)) (λ e. rw e (λ h. lt-leb (d + k) c (omega (arith, leb-false d c h))))
 
 -- "7, or c minus d": what is left is not used up exactly if the count lasts for one coupler more
-pub left-lasts : (c d : ℕ) → lasts c d ≡ true → not (eqb (onArrival c d) 0) ≡ lasts c (suc d)
+pub left-lasts : (q : Query) (d : ℕ) → lasts (q .count) d ≡ true → not (eqb (onArrival q d) 0) ≡ lasts (q .count) (suc d)
 unfolding lasts onArrival
-left-lasts c d e =
+left-lasts q d e =
+    let c : ℕ = q .count in
     by-cases (eqb c 7)
     (λ s. rw s refl)
     (λ s.
@@ -31,25 +33,25 @@ left-lasts c d e =
     (λ l. rw (s, l, ne-eqb (c - d) 0 (λ z. omega (arith, leb-true (suc d) c l))) refl)
     (λ l. rw (s, l, eq-eqb (c - d) 0 (omega (arith, leb-false (suc d) c l))) refl))
 
-pub lasts-more : (c d : ℕ) → lasts c (suc d) ≡ lasts c d && not (eqb (onArrival c d) 0)
-lasts-more c d =
-    by-cases (lasts c d)
-    (λ e. rw e (sym (left-lasts c d e)))
-    (λ e. rw e (ap (lasts c) (sym (add-one d)) ∙ lasts-less c d 1 e))
+pub lasts-more : (q : Query) (d : ℕ) → lasts (q .count) (suc d) ≡ lasts (q .count) d && not (eqb (onArrival q d) 0)
+lasts-more q d =
+    by-cases (lasts (q .count) d)
+    (λ e. rw e (sym (left-lasts q d e)))
+    (λ e. rw e (ap (lasts (q .count)) (sym (add-one d)) ∙ lasts-less (q .count) d 1 e))
 
 -- nothing crossed, nothing taken away
-pub arrival-none : (c : ℕ) → onArrival c 0 ≡ c
+pub arrival-none : (q : Query) → onArrival q 0 ≡ q .count
 unfolding onArrival
-arrival-none c = by-cases (eqb c 7) (λ e. rw e (sym (eqb-true c 7 e))) (λ e. rw e (omega arith))
+arrival-none q = by-cases (eqb (q .count) 7) (λ e. rw e (sym (eqb-true (q .count) 7 e))) (λ e. rw e (omega arith))
 
-pub arrival-below : (c d : ℕ) → c < 8 → onArrival c d < 8
+pub arrival-below : (q : Query) (d : ℕ) → q .count < 8 → onArrival q d < 8
 unfolding onArrival
-arrival-below c d h = by-cases (eqb c 7) (λ e. rw e (omega arith)) (λ e. rw e (omega arith))
+arrival-below q d h = by-cases (eqb (q .count) 7) (λ e. rw e (omega arith)) (λ e. rw e (omega arith))
 
 -- the hop rule takes away one
-pub hopped-more : (c d : ℕ) → c ≤ 7 → hopped (onArrival c d) ≡ onArrival c (suc d)
+pub hopped-more : (q : Query) (d : ℕ) → q .count ≤ 7 → hoppedIn q (onArrival q d) ≡ onArrival q (suc d)
 unfolding onArrival
-hopped-more c d h =
-    by-cases (eqb c 7)
+hopped-more q d h =
+    by-cases (eqb (q .count) 7)
     (λ e. rw e refl)
-    (λ e. rw (e, ne-eqb (c - d) 7 (λ z. eqb-false c 7 e (omega arith))) (omega arith))
+    (λ e. rw (e, ne-eqb (q .count - d) 7 (λ z. eqb-false (q .count) 7 e (omega arith))) (omega arith))

@@ -13,7 +13,9 @@ use Rattle.tracer.proofs.CountLaws.{lasts-more}
 use Rattle.tracer.proofs.Paths.{by-cases, never, on-zero, path-down, path-up, above-of, over-own, over-main}
 use Rattle.tracer.proofs.ReachingLaws.{and-yes, and-false}
 use Rattle.tracer.specs.Lines.{mainSides, Crossing, up, down, crossing, fromLine, toLine, cameOver, path, distance}
-use Rattle.tracer.specs.Listing.{allPass, lasts, isListed, onArrival, isForwarding}
+use Rattle.tracer.specs.Query.{onArrival}
+use Rattle.tracer.specs.Listing.{allPass, lasts, isListed, isForwarding}
+use Rattle.tracer.specs.declared.Query.{Query}
 
 -- a crossing over another coupler than the last of the path from s leads away from s
 pub goes-on : (s side n : ℕ) → side < 2 → (n ≡ 0 → ⊥) → cameOver (path s (fromLine (crossing side n))) n ≡ false
@@ -52,12 +54,13 @@ unfolding distance
 distance-more s t u x e = rw (e, length-append (path s u) (x ∷ [])) (omega arith)
 
 -- a line is listed exactly if the line before it is, the coupler between lets the telegram pass and the count is not used up
-pub listed-more : (f : Crossing → Bool) (s c t u : ℕ) (x : Crossing) → path s t ≡ path s u ++ (x ∷ [])
-    → isListed f s c t ≡ isListed f s c u && f x && not (eqb (onArrival c (distance s u)) 0)
+pub listed-more : (f : Crossing → Bool) (q : Query) (t u : ℕ) (x : Crossing) → path (q .start) t ≡ path (q .start) u ++ (x ∷ [])
+    → isListed f (q .start) (q .count) t ≡ isListed f (q .start) (q .count) u && f x && not (eqb (onArrival q (distance (q .start) u)) 0)
 unfolding isListed
-listed-more f s c t u x e =
-    rw (distance-more s t u x e, e, all-append f (path s u) (x ∷ []), and-yes (f x), lasts-more c (distance s u))
-    (sorted (allPass f (path s u)) (f x) (lasts c (distance s u)) (not (eqb (onArrival c (distance s u)) 0)))
+listed-more f q t u x e =
+    let s : ℕ = q .start in
+    rw (distance-more s t u x e, e, all-append f (path s u) (x ∷ []), and-yes (f x), lasts-more q (distance s u))
+    (sorted (allPass f (path s u)) (f x) (lasts (q .count) (distance s u)) (not (eqb (onArrival q (distance s u)) 0)))
   where
     sorted : (a b c d : Bool) → a && b && (c && d) ≡ a && c && b && d
     sorted true true true d = refl
@@ -66,14 +69,15 @@ listed-more f s c t u x e =
     sorted false b c d = refl
 
 -- a coupler makes a forwarding exactly if it leads on to a line that is listed
-pub forwarding-is : (f : Crossing → Bool) (s c side n : ℕ) → side < 2 → (n ≡ 0 → ⊥)
-    → isForwarding f s c (crossing side n) ≡ not (cameOver (path s (fromLine (crossing side n))) n) && isListed f s c (toLine (crossing side n))
+pub forwarding-is : (f : Crossing → Bool) (q : Query) (side n : ℕ) → side < 2 → (n ≡ 0 → ⊥)
+    → isForwarding f q (crossing side n) ≡ not (cameOver (path (q .start) (fromLine (crossing side n))) n) && isListed f (q .start) (q .count) (toLine (crossing side n))
 unfolding isForwarding
-forwarding-is f s c side n l h =
+forwarding-is f q side n l h =
     let x : Crossing = crossing side n in
-    by-cases (cameOver (path s (fromLine x)) n)
-    (λ e. rw (e, and-false (isListed f s c (fromLine x))) refl)
-    (λ e. rw (e, listed-more f s c (toLine x) (fromLine x) x (goes-on s side n l h e)) (yes (isListed f s c (fromLine x)) (f x) _))
+    let listed : Bool = isListed f (q .start) (q .count) (fromLine x) in
+    by-cases (cameOver (path (q .start) (fromLine x)) n)
+    (λ e. rw (e, and-false listed) refl)
+    (λ e. rw (e, listed-more f q (toLine x) (fromLine x) x (goes-on (q .start) side n l h e)) (yes listed (f x) _))
   where
     yes : (a b d : Bool) → a && true && b && d ≡ a && b && d
     yes true b d = refl

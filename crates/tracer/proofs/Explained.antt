@@ -10,8 +10,8 @@ use native.Mathlib.Omega.{arith}
 use lib.Dec.{ltb, eqb}
 use lib.ListN.{length, getD, drop}
 use borrow.Author.Tests.{lt-ltb}
-use Rattle.coupler.specs.Passing.{doesPass}
-use Rattle.coupler.specs.declared.Passage.{Passage}
+use Rattle.passing.specs.Passing.{doesPass}
+use Rattle.passing.specs.declared.Passage.{Passage}
 use Rattle.octets.proofs.Below.{and-true}
 use Rattle.site.proofs.LettingLaws.{passage-lets}
 use Rattle.site.specs.Letting.{passageAt}
@@ -22,7 +22,9 @@ use Rattle.tracer.proofs.Paths.{by-cases, never}
 use Rattle.tracer.proofs.ReachingLaws.{along-zero, reach-reached}
 use Rattle.tracer.proofs.RoomList.{lasts-iff}
 use Rattle.tracer.specs.Lines.{Crossing, path}
-use Rattle.tracer.specs.Listing.{Query, crossingPasses, allPass, lasts, isListed, onArrival}
+use Rattle.tracer.specs.Query.{onArrival}
+use Rattle.tracer.specs.Listing.{crossingPasses, allPass, lasts, isListed}
+use Rattle.tracer.specs.declared.Query.{Query}
 use Rattle.tracer.specs.Reaching.{handed, along, reach}
 use Rattle.tracer.specs.Why.{walked, whyBy, whyOf}
 use Rattle.tracer.specs.declared.Explanation.the-variants.{Reached, NotReached}
@@ -37,10 +39,10 @@ isGoing (Stopped stop) = false
 lasts-fewer : (c d n : ℕ) → d ≤ n → lasts c n ≡ true → lasts c d ≡ true
 lasts-fewer c d n h e = lasts-iff c d .1 (⊎-elim (λ s. inl s) (λ l. inr (omega (arith, l))) (lasts-iff c n .0 e))
 
-stopped-stays : (st : Stores) (site : List ℕ) (group : Bool) (destination : ℕ) (stop : Stop) (xs : List Crossing)
-    → walked st site group destination (Stopped stop) xs ≡ Stopped stop
-stopped-stays st site group destination stop [] = refl
-stopped-stays st site group destination stop (x ∷ xs) = stopped-stays st site group destination stop xs
+stopped-stays : (st : Stores) (site : List ℕ) (q : Query) (stop : Stop) (xs : List Crossing)
+    → walked st site q (Stopped stop) xs ≡ Stopped stop
+stopped-stays st site q stop [] = refl
+stopped-stays st site q stop (x ∷ xs) = stopped-stays st site q stop xs
 
 first-same : {A : Type 0} {x y : A} {xs ys : List A} → x ∷ xs ≡ y ∷ ys → x ≡ y
 first-same {x = x} e = ap (λ l. getD l 0 x) e
@@ -50,35 +52,35 @@ rest-same e = ap (λ l. drop 1 l) e
 
 module _ (st : Stores) (site : List ℕ) (q : Query) where
   abbrev walk : Walk → List Crossing → Walk
-  walk w xs = walked st site (eqb (q .kind) 1) (q .destination) w xs
+  walk w xs = walked st site q w xs
 
   abbrev passage : Crossing → ℕ → Passage
-  passage x count = passageAt st (eqb (q .kind) 1) (q .destination) (recordsOf site) (x .direction) (x .line) count
+  passage x count = passageAt st (q .kind) (q .destination) (recordsOf site) (x .direction) (x .line) count
 
   -- after d couplers, with the count that is left
   going : (m : q .count ≤ 7) (d : ℕ) (xs : List Crossing) → lasts (q .count) d ≡ true
-      → isGoing (walk (Going (onArrival (q .count) d)) xs) ≡ ltb 0 (along (crossingPasses st site q) (q .count) (suc d) xs)
+      → isGoing (walk (Going (onArrival q d)) xs) ≡ ltb 0 (along (crossingPasses st site q) (q .count) (suc d) xs)
   unfolding handed
   going m d [] e = sym (lt-ltb 0 (suc d) (omega arith))
   going m d (x ∷ xs) e =
-      let p = passage x (onArrival (q .count) d) in
+      let p = passage x (onArrival q d) in
       let f = crossingPasses st site q x in
       let k : doesPass p ≡ f && lasts (q .count) (suc d) =
-      passage-lets st (eqb (q .kind) 1) (q .destination) (recordsOf site) (x .direction) (x .line) (onArrival (q .count) d)
-      ∙ ap (λ (b : Bool). f && b) (left-lasts (q .count) d e) in
+      passage-lets st (q .kind) (q .destination) (recordsOf site) (x .direction) (x .line) (onArrival q d)
+      ∙ ap (λ (b : Bool). f && b) (left-lasts q d e) in
       by-cases (f && lasts (q .count) (suc d))
       (λ t.
       let l : lasts (q .count) (suc d) ≡ true = and-true f (lasts (q .count) (suc d)) t .1 in
-      rw (k, lt-ltb 0 (suc d) (omega arith), t, hopped-more (q .count) d m) (going m (suc d) xs l))
+      rw (k, lt-ltb 0 (suc d) (omega arith), t, hopped-more q d m) (going m (suc d) xs l))
       (λ n.
       rw (k, lt-ltb 0 (suc d) (omega arith), n)
-      (ap isGoing (stopped-stays st site (eqb (q .kind) 1) (q .destination) (record { coupler = x .line; direction = x .direction; reason = p }) xs)
+      (ap isGoing (stopped-stays st site q (record { coupler = x .line; direction = x .direction; reason = p }) xs)
       ∙ sym (ap (λ (l : ℕ). ltb 0 l) (along-zero (crossingPasses st site q) (q .count) xs))))
 
   going-listed : (m : q .count ≤ 7) (line : ℕ) → isGoing (walk (Going (q .count)) (path (q .start) line)) ≡ isListed (crossingPasses st site q) (q .start) (q .count) line
   unfolding reach
   going-listed m line =
-      ap (λ (c : ℕ). isGoing (walk (Going c) (path (q .start) line))) (sym (arrival-none (q .count)))
+      ap (λ (c : ℕ). isGoing (walk (Going c) (path (q .start) line))) (sym (arrival-none q))
       ∙ going m 0 (path (q .start) line) (lasts-none (q .count))
       ∙ reach-reached (crossingPasses st site q) (q .start) (q .count) line
 
@@ -102,11 +104,11 @@ module _ (st : Stores) (site : List ℕ) (q : Query) where
   abbrev pub StopsBehind : ℕ → List Crossing → Crossing → Type 0
   StopsBehind d ahead here =
       (allPass (crossingPasses st site q) ahead ≡ true)
-      × ((lasts (q .count) (d + length ahead) ≡ true) × (doesPass (passage here (onArrival (q .count) (d + length ahead))) ≡ false))
+      × ((lasts (q .count) (d + length ahead) ≡ true) × (doesPass (passage here (onArrival q (d + length ahead))) ≡ false))
 
   -- what is told of it: the reason that it has with the count on arrival there
   abbrev pub stopOf : Crossing → ℕ → Stop
-  stopOf x d = record { coupler = x .line; direction = x .direction; reason = passage x (onArrival (q .count) d) }
+  stopOf x d = record { coupler = x .line; direction = x .direction; reason = passage x (onArrival q d) }
 
   pub record StoppedAt (crossed : ℕ) (xs : List Crossing) (stop : Stop) : Type 0 where
     pub ahead : List Crossing
@@ -116,15 +118,15 @@ module _ (st : Stores) (site : List ℕ) (q : Query) where
     pub stops : StopsBehind crossed ahead here
     pub told : stop ≡ stopOf here (crossed + length ahead)
 
-  stopped-at : (m : q .count ≤ 7) (d : ℕ) (xs : List Crossing) (stop : Stop) → lasts (q .count) d ≡ true → walk (Going (onArrival (q .count) d)) xs ≡ Stopped stop → StoppedAt d xs stop
+  stopped-at : (m : q .count ≤ 7) (d : ℕ) (xs : List Crossing) (stop : Stop) → lasts (q .count) d ≡ true → walk (Going (onArrival q d)) xs ≡ Stopped stop → StoppedAt d xs stop
   stopped-at m d [] stop h e = let z : _≡_ {A = ℕ} 0 1 = cc in absurd (omega arith)
   stopped-at m d (x ∷ xs) stop h e =
-      let k = onArrival (q .count) d in
+      let k = onArrival q d in
       by-cases (doesPass (passage x k))
       (λ t.
-      let a = and-true (crossingPasses st site q x) (not (eqb k 0)) (sym (passage-lets st (eqb (q .kind) 1) (q .destination) (recordsOf site) (x .direction) (x .line) k) ∙ t) in
-      let l : lasts (q .count) (suc d) ≡ true = sym (left-lasts (q .count) d h) ∙ a .1 in
-      let s = stopped-at m (suc d) xs stop l (ap (λ (c : ℕ). walk (Going c) xs) (sym (hopped-more (q .count) d m)) ∙ (rw t at e)) in
+      let a = and-true (crossingPasses st site q x) (not (eqb k 0)) (sym (passage-lets st (q .kind) (q .destination) (recordsOf site) (x .direction) (x .line) k) ∙ t) in
+      let l : lasts (q .count) (suc d) ≡ true = sym (left-lasts q d h) ∙ a .1 in
+      let s = stopped-at m (suc d) xs stop l (ap (λ (c : ℕ). walk (Going c) xs) (sym (hopped-more q d m)) ∙ (rw t at e)) in
       let j : suc d + length (s .ahead) ≡ d + suc (length (s .ahead)) = omega arith in
       record {
         ahead = x ∷ s .ahead;
@@ -135,7 +137,7 @@ module _ (st : Stores) (site : List ℕ) (q : Query) where
         told = s .told ∙ ap (stopOf (s .here)) j;
       })
       (λ n.
-      let f : Stopped (stopOf x d) ≡ Stopped stop = sym (stopped-stays st site (eqb (q .kind) 1) (q .destination) (stopOf x d) xs) ∙ (rw n at e) in
+      let f : Stopped (stopOf x d) ≡ Stopped stop = sym (stopped-stays st site q (stopOf x d) xs) ∙ (rw n at e) in
       let g : stop ≡ stopOf x d = cc in
       let j : d ≡ d + 0 = omega arith in
       record {
@@ -156,14 +158,14 @@ module _ (st : Stores) (site : List ℕ) (q : Query) where
   unfolding whyOf
   not-reached m line e =
       let w = stop-of (walk (Going (q .count)) (path (q .start) line)) (going-listed m line ∙ e) in
-      (w .0, (ap whyBy (w .1), stopped-at m 0 (path (q .start) line) (w .0) (lasts-none (q .count)) (ap (λ (c : ℕ). walk (Going c) (path (q .start) line)) (arrival-none (q .count)) ∙ w .1)))
+      (w .0, (ap whyBy (w .1), stopped-at m 0 (path (q .start) line) (w .0) (lasts-none (q .count)) (ap (λ (c : ℕ). walk (Going c) (path (q .start) line)) (arrival-none q) ∙ w .1)))
 
   -- a coupler that lets the telegram pass hands it on if the count lasts for one more
-  hands-on : (x : Crossing) (d n : ℕ) → crossingPasses st site q x ≡ true → d < n → lasts (q .count) n ≡ true → doesPass (passage x (onArrival (q .count) d)) ≡ true
+  hands-on : (x : Crossing) (d n : ℕ) → crossingPasses st site q x ≡ true → d < n → lasts (q .count) n ≡ true → doesPass (passage x (onArrival q d)) ≡ true
   hands-on x d n f h e =
       let more : lasts (q .count) (suc d) ≡ true = lasts-fewer (q .count) (suc d) n h e in
-      passage-lets st (eqb (q .kind) 1) (q .destination) (recordsOf site) (x .direction) (x .line) (onArrival (q .count) d)
-      ∙ rw (f, left-lasts (q .count) d (lasts-fewer (q .count) d n (omega (arith, h)) e)) more
+      passage-lets st (q .kind) (q .destination) (recordsOf site) (x .direction) (x .line) (onArrival q d)
+      ∙ rw (f, left-lasts q d (lasts-fewer (q .count) d n (omega (arith, h)) e)) more
 
   stops-behind : (d : ℕ) (x y : Crossing) (xs : List Crossing) → StopsBehind d (x ∷ xs) y → (crossingPasses st site q x ≡ true) × StopsBehind (suc d) xs y
   stops-behind d x y xs s =

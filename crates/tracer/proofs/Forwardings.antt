@@ -10,6 +10,7 @@ use borrow.Author.Tests.{ltb-true, ltb-false, eqb-true, eqb-false, lt-ltb, le-lt
 use Rattle.site.specs.WellFormed.{isAmong}
 use Rattle.tracer.proofs.Crossings.{forwarding-is}
 use Rattle.tracer.proofs.Paths.{by-cases, main-below, mains-zero, mains-cons, by-mains, on-below, over-own, over-main}
+use Rattle.tracer.specs.declared.Query.{Query}
 use Rattle.tracer.specs.Lines.{mainSide, mainSides, Crossing, up, down}
 use Rattle.tracer.specs.Listing.{isListed, countBelow, isForwarding, forwardingsBy}
 
@@ -85,24 +86,30 @@ not-not : (b : Bool) → not (not b) ≡ b
 not-not true = refl
 not-not false = refl
 
-module _ (f : Crossing → Bool) (s c : ℕ) where
-  forwarding-down : (n : ℕ) → (n ≡ 0 → ⊥) → isForwarding f s c (down n) ≡ not (isAmong n (mainSides s)) && isListed f s c n
-  forwarding-down n h = forwarding-is f s c 0 n (omega arith) h ∙ rw (over-main s n h) refl
+module _ (f : Crossing → Bool) (q : Query) where
+  abbrev s : ℕ
+  s = q .start
 
-  forwarding-up : (n : ℕ) → (n ≡ 0 → ⊥) → isForwarding f s c (up n) ≡ isAmong n (mainSides s) && isListed f s c (mainSide n)
-  forwarding-up n h = forwarding-is f s c 1 n (omega arith) h ∙ rw (over-own s n h, not-not (isAmong n (mainSides s))) refl
+  abbrev lists : ℕ → Bool
+  lists = isListed f s (q .count)
+
+  forwarding-down : (n : ℕ) → (n ≡ 0 → ⊥) → isForwarding f q (down n) ≡ not (isAmong n (mainSides s)) && lists n
+  forwarding-down n h = forwarding-is f q 0 n (omega arith) h ∙ rw (over-main s n h) refl
+
+  forwarding-up : (n : ℕ) → (n ≡ 0 → ⊥) → isForwarding f q (up n) ≡ isAmong n (mainSides s) && lists (mainSide n)
+  forwarding-up n h = forwarding-is f q 1 n (omega arith) h ∙ rw (over-own s n h, not-not (isAmong n (mainSides s))) refl
 
   forwardings-below : (n : ℕ) → s ≤ n
-      → countBelow (isListed f s c) (suc n) ≡ cond (isListed f s c s) 1 0 + (countBelow (λ i. isForwarding f s c (down (suc i))) n + countBelow (λ i. isForwarding f s c (up (suc i))) n)
+      → countBelow lists (suc n) ≡ cond (lists s) 1 0 + (countBelow (λ i. isForwarding f q (down (suc i))) n + countBelow (λ i. isForwarding f q (up (suc i))) n)
   unfolding ownOf mainOf
   forwardings-below n h =
-      let l : ℕ → Bool = isListed f s c in
+      let l : ℕ → Bool = lists in
       let a = count-first l n in
       let b = count-split (above l n s) (λ i. l (suc i)) n in
-      let d = count-same (λ i. isForwarding f s c (down (suc i))) (λ i. not (above l n s i) && l (suc i)) n (λ i k. forwarding-down (suc i) (λ z. omega arith)) in
-      let u = count-same (λ i. isForwarding f s c (up (suc i))) (λ i. above l n s i && l (mainSide (suc i))) n (λ i k. forwarding-up (suc i) (λ z. omega arith)) in
+      let d = count-same (λ i. isForwarding f q (down (suc i))) (λ i. not (above l n s i) && l (suc i)) n (λ i k. forwarding-down (suc i) (λ z. omega arith)) in
+      let u = count-same (λ i. isForwarding f q (up (suc i))) (λ i. above l n s i && l (mainSide (suc i))) n (λ i k. forwarding-up (suc i) (λ z. omega arith)) in
       omega (arith, a, b, d, u, main-each l n s h)
 
   -- each listed line but the starting line by one forwarding, and each forwarding to one of them
-  pub forwardings-listed : s < 256 → countBelow (isListed f s c) 256 ≡ cond (isListed f s c s) 1 0 + forwardingsBy f s c
+  pub forwardings-listed : s < 256 → countBelow lists 256 ≡ cond (lists s) 1 0 + forwardingsBy f q
   forwardings-listed h = forwardings-below 255 (omega arith)

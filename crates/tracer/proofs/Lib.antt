@@ -7,12 +7,8 @@ pub mod RoomList
 pub mod Explained
 pub mod Crossings
 pub mod Forwardings
-pub mod SoMany
 pub mod ListLaws
 pub mod Standing
 pub mod ListedBy
-pub mod Fitted
-pub mod Handing
-pub mod Journey
 pub mod Refusals
 pub mod Answers

@@ -8,9 +8,7 @@ use native.Mathlib.Omega.{arith}
 use lib.Dec.{eqb}
 use lib.ListN.{length, getD}
 use borrow.Author.Tests.{ltb-false}
-use Rattle.coupler.proofs.StepLaws.{judged-fine, judged-refused}
-use Rattle.coupler.specs.Step.{judgedBy}
-use Rattle.coupler.specs.declared.Judged.{Judged}
+use Rattle.frame.specs.declared.Verdict.{Verdict}
 use Rattle.frame.proofs.Order.{passed-iff}
 use Rattle.frame.specs.Order.{Test, firstOf}
 use Rattle.frame.specs.Refusals.{number}
@@ -26,28 +24,32 @@ use Rattle.tracer.proofs.ListLaws.{forwarded-lines}
 use Rattle.tracer.proofs.Paths.{by-cases, main-below, by-mains, on-zero, before-on, before-off}
 use Rattle.tracer.proofs.ReachingLaws.{reach-listed, reach-reached}
 use Rattle.tracer.specs.Lines.{mainSides, beforeCommon, Crossing, up, down, upOver, downOver, path, distance}
-use Rattle.tracer.specs.Listing.{Query, queryOf, crossingPasses, allPass, isListed, entry, eachBelow, countBelow, listed, linesListed, forwardings}
+use Rattle.tracer.specs.Listing.{crossingPasses, allPass, isListed, entry, eachBelow, countBelow, listed, linesListed, forwardings}
+use Rattle.tracer.specs.declared.Query.{Query}
 use Rattle.tracer.specs.Reaching.{reach, marked, isForwardedTo, Spread, isReached, entryBy}
 use Rattle.tracer.specs.Tracing.{traceTests, DidTrace}
 use Rattle.tracer.specs.Reaching.{DidList}
 use Rattle.tracer.specs.declared.Traced.{Traced}
-use Rattle.coupler.specs.declared.Judged.the-variants.{Fine, Refused as NotFine}
+use Rattle.frame.specs.declared.Verdict.the-variants.{Fine, Refuse}
 
 each-same : (f g : ℕ → List ℕ) (n : ℕ) → ((i : ℕ) → i < n → f i ≡ g i) → eachBelow f n ≡ eachBelow g n
 each-same f g zero h = refl
 each-same f g (suc n) h = rw (each-same f g n (λ i l. h i (omega arith)), h n (omega arith)) refl
 
 -- a line whose number is known
-module _ (f : Crossing → Bool) (s c t : ℕ) (lines : List ℕ) (e : getD lines t 0 ≡ reach f s c t) where
-  reached-listed : isReached lines t ≡ isListed f s c t
-  unfolding isReached
-  reached-listed = rw e (reach-reached f s c t)
+module _ (f : Crossing → Bool) (q : Query) (t : ℕ) (lines : List ℕ) (e : getD lines t 0 ≡ reach f (q .start) (q .count) t) where
+  abbrev lists : Bool
+  lists = isListed f (q .start) (q .count) t
 
-  entry-by : entryBy c lines t ≡ entry f s c t
+  reached-listed : isReached lines t ≡ lists
+  unfolding isReached
+  reached-listed = rw e (reach-reached f (q .start) (q .count) t)
+
+  entry-by : entryBy q lines t ≡ entry f q t
   unfolding entryBy entry
   entry-by =
-      let q : isListed f s c t ≡ true → getD lines t 0 - 1 ≡ distance s t = λ h. omega (arith, e, rw h at (reach-listed f s c t)) in
-      rw reached-listed (by-cases (isListed f s c t) (λ h. rw (h, q h) refl) (λ h. rw h refl))
+      let crossed : lists ≡ true → getD lines t 0 - 1 ≡ distance (q .start) t = λ h. omega (arith, e, rw h at (reach-listed f (q .start) (q .count) t)) in
+      rw reached-listed (by-cases lists (λ h. rw (h, crossed h) refl) (λ h. rw h refl))
 
 -- two tests that agree at every coupler of a line below 256
 module _ (f g : Crossing → Bool) (downs : (n : ℕ) → n < 256 → f (down n) ≡ g (down n)) (ups : (n : ℕ) → n < 256 → f (up n) ≡ g (up n)) where
@@ -69,17 +71,17 @@ module _ (f g : Crossing → Bool) (downs : (n : ℕ) → n < 256 → f (down n)
       (λ e. rw (before-on n others e) refl)
       (λ e. rw (before-off n others h e, all-append f, all-append g, downs n l, ih (omega (arith, main-below n h))) refl))
 
-  module _ (s c : ℕ) (hs : s < 256) where
-    listed-same : (t : ℕ) → t < 256 → isListed f s c t ≡ isListed g s c t
+  module _ (q : Query) (hs : q .start < 256) where
+    listed-same : (t : ℕ) → t < 256 → isListed f (q .start) (q .count) t ≡ isListed g (q .start) (q .count) t
     unfolding isListed path
     listed-same t ht =
-        rw (all-append f, all-append g, up-same (mainSides t) (on-zero t) s hs, down-same (mainSides s) (on-zero s) t ht) refl
+        rw (all-append f, all-append g, up-same (mainSides t) (on-zero t) (q .start) hs, down-same (mainSides (q .start)) (on-zero (q .start)) t ht) refl
 
-    entry-same : (t : ℕ) → t < 256 → entry f s c t ≡ entry g s c t
+    entry-same : (t : ℕ) → t < 256 → entry f q t ≡ entry g q t
     unfolding entry
     entry-same t ht = rw (listed-same t ht) refl
 
-    forwarded-same : (t : ℕ) → t < 256 → isForwardedTo f s c t ≡ isForwardedTo g s c t
+    forwarded-same : (t : ℕ) → t < 256 → isForwardedTo f (q .start) (q .count) t ≡ isForwardedTo g (q .start) (q .count) t
     unfolding isForwardedTo
     forwarded-same t ht = rw (listed-same t ht) refl
 
@@ -88,8 +90,8 @@ by-three a b = rw (a, b) refl
 
 -- what the tracer's three steps ensure
 module _ (st : Stores) (site : List ℕ) (q : Query) {downward upward : List Bool} (small : q .start < 256)
-    (d : Marks (lineLetsPass st (eqb (q .kind) 1) (q .destination) (recordsOf site) 0) downward)
-    (u : Marks (lineLetsPass st (eqb (q .kind) 1) (q .destination) (recordsOf site) 1) upward) where
+    (d : Marks (lineLetsPass st (q .kind) (q .destination) (recordsOf site) 0) downward)
+    (u : Marks (lineLetsPass st (q .kind) (q .destination) (recordsOf site) 1) upward) where
   abbrev asked : Crossing → Bool
   asked = crossingPasses st site q
 
@@ -106,22 +108,22 @@ module _ (st : Stores) (site : List ℕ) (q : Query) {downward upward : List Boo
     unfolding linesListed
     counted =
         count-same (isReached reached) (isListed asked (q .start) (q .count)) 256
-        (λ i h. reached-listed (marked downward upward) (q .start) (q .count) i reached (w .each i h) ∙ listed-same (marked downward upward) asked downs ups (q .start) (q .count) small i h)
+        (λ i h. reached-listed (marked downward upward) q i reached (w .each i h) ∙ listed-same (marked downward upward) asked downs ups q small i h)
 
-    entries : eachBelow (entryBy (q .count) reached) 256 ≡ listed st site q
+    entries : eachBelow (entryBy q reached) 256 ≡ listed st site q
     unfolding listed
     entries =
-        each-same (entryBy (q .count) reached) (entry asked (q .start) (q .count)) 256
-        (λ i h. entry-by (marked downward upward) (q .start) (q .count) i reached (w .each i h) ∙ entry-same (marked downward upward) asked downs ups (q .start) (q .count) small i h)
+        each-same (entryBy q reached) (entry asked q) 256
+        (λ i h. entry-by (marked downward upward) q i reached (w .each i h) ∙ entry-same (marked downward upward) asked downs ups q small i h)
 
     handed-on : made ≡ forwardings st site q
     unfolding forwardings
     handed-on =
         w .forwarded
-        ∙ count-same (isForwardedTo (marked downward upward) (q .start) (q .count)) (isForwardedTo asked (q .start) (q .count)) 256 (forwarded-same (marked downward upward) asked downs ups (q .start) (q .count) small)
-        ∙ forwarded-lines asked (q .start) (q .count) small
+        ∙ count-same (isForwardedTo (marked downward upward) (q .start) (q .count)) (isForwardedTo asked (q .start) (q .count)) 256 (forwarded-same (marked downward upward) asked downs ups q small)
+        ∙ forwarded-lines asked q small
 
-    pub listed-by : {lines : ℕ} {room room′ : List ℕ} → (lines ≡ countBelow (isReached reached) 256) × (room′ ≡ over (eachBelow (entryBy (q .count) reached) 256) room)
+    pub listed-by : {lines : ℕ} {room room′ : List ℕ} → (lines ≡ countBelow (isReached reached) 256) × (room′ ≡ over (eachBelow (entryBy q reached) 256) room)
         → DidList st site q room (record { number = 0; lines = lines; forwardings = made }) room′
     listed-by {lines} {room} l =
         record {
@@ -130,26 +132,21 @@ module _ (st : Stores) (site : List ℕ) (q : Query) {downward upward : List Boo
         }
 
 -- the verdict, and by it the refusal or the list
-module _ (st : Stores) (site : List ℕ) (kind count : ℕ) (room : List ℕ) {judged : Judged}
-    (j : judged ≡ judgedBy (firstOf (traceTests st site (queryOf 0 kind 0 count) (length room)))) where
+module _ (st : Stores) (site : List ℕ) (q : Query) (room : List ℕ) {judged : Verdict}
+    (j : judged ≡ firstOf (traceTests st site q (length room))) where
   abbrev tests : List Test
-  tests = traceTests st site (queryOf 0 kind 0 count) (length room)
+  tests = traceTests st site q (length room)
 
   pub trace-room : judged ≡ Fine → 768 ≤ length room
-  trace-room e = ltb-false (length room) 768 (passed-iff tests .0 (judged-fine (firstOf tests) (sym e ∙ j)) .1 .0)
+  trace-room e = ltb-false (length room) 768 (passed-iff tests .0 (sym j ∙ e) .1 .0)
 
-  module _ (start destination : ℕ) where
-    pub trace-refused : (r : Refusal) {n : ℕ} → judged ≡ NotFine r → n ≡ number r
-        → DidTrace st site (queryOf start kind destination count) room (record { number = n; lines = 0; forwardings = 0 }) room
-    trace-refused r e n =
-        let v = judged-refused (firstOf tests) r (sym e ∙ j) in
-        record { answered = rw (v, n) refl; left = rw v refl }
+  pub trace-refused : (r : Refusal) {n : ℕ} → judged ≡ Refuse r → n ≡ number r
+      → DidTrace st site q room (record { number = n; lines = 0; forwardings = 0 }) room
+  trace-refused r e n = let v : firstOf tests ≡ Refuse r = sym j ∙ e in record { answered = rw (v, n) refl; left = rw v refl }
 
-    pub trace-listed : {answer : Traced} {room′ : List ℕ} → judged ≡ Fine → DidList st site (queryOf start kind destination count) room answer room′
-        → DidTrace st site (queryOf start kind destination count) room answer room′
-    trace-listed e l =
-        let v = judged-fine (firstOf tests) (sym e ∙ j) in
-        record { answered = rw v (l .answered); left = rw v (l .left) }
+  pub trace-listed : {answer : Traced} {room′ : List ℕ} → judged ≡ Fine → DidList st site q room answer room′
+      → DidTrace st site q room answer room′
+  trace-listed e l = let v : firstOf tests ≡ Fine = sym j ∙ e in record { answered = rw v (l .answered); left = rw v (l .left) }
 
 -- two outcomes that the contract allows coincide
 pub traced-one : {st : Stores} {site : List ℕ} {q : Query} {room : List ℕ} {r₁ r₂ : Traced} {a₁ a₂ : List ℕ} → DidTrace st site q room r₁ a₁ → DidTrace st site q room r₂ a₂ → (r₁ ≡ r₂) × (a₁ ≡ a₂)

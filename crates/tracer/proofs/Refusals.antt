@@ -14,8 +14,9 @@ use Rattle.frame.specs.declared.Refusal.{Refusal}
 use Rattle.site.proofs.Refusals.{site-are, gives-none-below}
 use Rattle.site.specs.Stores.{Stores}
 use Rattle.site.specs.WellFormed.{siteTests}
-use Rattle.tracer.specs.Listing.{Query}
-use Rattle.tracer.specs.Tracing.{isQuery, traceTests}
+use Rattle.tracer.specs.declared.Query.{Query}
+use Rattle.tracer.specs.Query.{isQuery}
+use Rattle.tracer.specs.Tracing.{traceTests}
 use Rattle.frame.proofs.Order.{passed-iff, refused-iff as order-iff, givesNot, once-iff}
 
 module _ (st : Stores) (site : List ℕ) (q : Query) (room : ℕ) where

@@ -16,7 +16,9 @@ use Rattle.site.specs.WellFormed.{isAmong}
 use Rattle.tracer.proofs.Paths.{by-cases, never, or-right}
 use Rattle.tracer.proofs.ReachingLaws.{and-false}
 use Rattle.tracer.specs.Lines.{Crossing, path, distance}
-use Rattle.tracer.specs.Listing.{Query, crossingPasses, allPass, lasts, isListed, onArrival, entry, eachBelow, countBelow, listed, linesListed}
+use Rattle.tracer.specs.Query.{onArrival}
+use Rattle.tracer.specs.Listing.{crossingPasses, allPass, lasts, isListed, entry, eachBelow, countBelow, listed, linesListed}
+use Rattle.tracer.specs.declared.Query.{Query}
 
 -- "in rising order, each once"
 abbrev pub Rising : List ℕ → Type 0
@@ -180,7 +182,7 @@ module _ (st : Stores) (site : List ℕ) (q : Query) where
   linesOn = allWith isOn 256
 
   abbrev entryOf : ℕ → List ℕ
-  entryOf line = line ∷ onArrival (q .count) (length (path (q .start) line)) ∷ length (path (q .start) line) ∷ []
+  entryOf line = line ∷ onArrival q (length (path (q .start) line)) ∷ length (path (q .start) line) ∷ []
 
   pub lines-octets : listed st site q ≡ octetsOf entryOf linesOn
   unfolding listed entry distance

@@ -16,12 +16,14 @@ use Rattle.site.specs.Stores.{Stores}
 use Rattle.tracer.proofs.ListLaws.{three-each}
 use Rattle.tracer.proofs.Paths.{by-cases}
 use Rattle.tracer.specs.Lines.{distance}
-use Rattle.tracer.specs.Listing.{Query, crossingPasses, isListed, onArrival, entry, StandsIn, eachBelow, countBelow, listed, linesListed}
+use Rattle.tracer.specs.Query.{onArrival}
+use Rattle.tracer.specs.Listing.{crossingPasses, isListed, entry, StandsIn, eachBelow, countBelow, listed, linesListed}
+use Rattle.tracer.specs.declared.Query.{Query}
 
 -- a line is listed with this count on arrival and so many couplers crossed
 pub record ListedWith (st : Stores) (site : List ℕ) (q : Query) (line count crossed : ℕ) : Type 0 where
   pub lists : isListed (crossingPasses st site q) (q .start) (q .count) line ≡ true
-  pub counts : onArrival (q .count) (distance (q .start) line) ≡ count
+  pub counts : onArrival q (distance (q .start) line) ≡ count
   pub crosses : distance (q .start) line ≡ crossed
 
 module _ (st : Stores) (site : List ℕ) (q : Query) where
@@ -29,15 +31,15 @@ module _ (st : Stores) (site : List ℕ) (q : Query) where
   lists = isListed (crossingPasses st site q) (q .start) (q .count)
 
   abbrev entryOf : ℕ → List ℕ
-  entryOf = entry (crossingPasses st site q) (q .start) (q .count)
+  entryOf = entry (crossingPasses st site q) q
 
   -- the entry of line n stands behind those of the lines below it
   entry-stands : (n : ℕ) (rest : List ℕ) → lists n ≡ true
-      → take 3 (drop (countBelow lists n * 3) ((eachBelow entryOf n ++ entryOf n) ++ rest)) ≡ n ∷ onArrival (q .count) (distance (q .start) n) ∷ distance (q .start) n ∷ []
+      → take 3 (drop (countBelow lists n * 3) ((eachBelow entryOf n ++ entryOf n) ++ rest)) ≡ n ∷ onArrival q (distance (q .start) n) ∷ distance (q .start) n ∷ []
   unfolding entry
   entry-stands n rest l =
       let e : drop (countBelow lists n * 3) ((eachBelow entryOf n ++ entryOf n) ++ rest) ≡ entryOf n ++ rest =
-      rw (← three-each (crossingPasses st site q) (q .start) (q .count) n, append-assoc (eachBelow entryOf n) (entryOf n) rest) (drop-append-seam (eachBelow entryOf n) (entryOf n ++ rest)) in
+      rw (← three-each (crossingPasses st site q) q n, append-assoc (eachBelow entryOf n) (entryOf n) rest) (drop-append-seam (eachBelow entryOf n) (entryOf n ++ rest)) in
       ap (take 3) e ∙ rw l refl
 
   -- so many listed lines come before it
@@ -55,7 +57,7 @@ module _ (st : Stores) (site : List ℕ) (q : Query) where
       by-cases (lists n)
       (λ l.
       let g : x .place ≡ countBelow lists n = omega (arith, h, rw l at (x .among)) in
-      let f : t ∷ k ∷ d ∷ [] ≡ n ∷ onArrival (q .count) (distance (q .start) n) ∷ distance (q .start) n ∷ [] =
+      let f : t ∷ k ∷ d ∷ [] ≡ n ∷ onArrival q (distance (q .start) n) ∷ distance (q .start) n ∷ [] =
       sym (x .three) ∙ ap (λ (i : ℕ). take 3 (drop (i * 3) ((eachBelow entryOf n ++ entryOf n) ++ rest))) g ∙ entry-stands n rest l in
       let same : t ≡ n = ap (λ (o : List ℕ). octetAt o 0) f in
       (g ∙ ap (countBelow lists) (sym same), (omega (arith, same), rw same (record { lists = l; counts = sym (ap (λ (o : List ℕ). octetAt o 1) f); crosses = sym (ap (λ (o : List ℕ). octetAt o 2) f) }))))

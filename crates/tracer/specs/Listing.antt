@@ -1,6 +1,6 @@
 -- Demand 3: a line is listed exactly if every coupler on the path from the starting line to it is fitted and lets the telegram pass in its
 -- direction of travel, and the count c is 7 or the distance d at most c; in rising order, each once.
-use Prim.Native.Nat.{ℕ, zero, suc, _+_, _-_, _*_, _<_}
+use Prim.Native.Nat.{ℕ, zero, suc, _+_, _*_, _<_}
 use mathlib.Core.Bool.{Bool, true, not, cond, _&&_, _||_}
 use mathlib.Core.List.{List, [], _∷_, _++_}
 use mathlib.Core.Path.{_≡_}
@@ -9,21 +9,13 @@ use lib.ListN.{take, drop}
 use Rattle.site.specs.Letting.{lineLetsPass}
 use Rattle.site.specs.Records.{recordsOf}
 use Rattle.site.specs.Stores.{Stores}
+use Rattle.tracer.specs.Query.{onArrival}
+use Rattle.tracer.specs.declared.Query.{Query}
 use Rattle.tracer.specs.Lines.{Crossing, up, down, fromLine, cameOver, path, distance}
-
--- what a planner asks; "kind (0 individual, 1 group)"
-pub record Query : Type 0 where
-  pub start : ℕ
-  pub kind : ℕ
-  pub destination : ℕ
-  pub count : ℕ
-
-abbrev pub queryOf : ℕ → ℕ → ℕ → ℕ → Query
-queryOf start kind destination count = record { start = start; kind = kind; destination = destination; count = count }
 
 -- whether a site's coupler is fitted and lets the telegram pass in this direction of travel
 abbrev pub crossingPasses : Stores → List ℕ → Query → Crossing → Bool
-crossingPasses st site q x = lineLetsPass st (eqb (q .kind) 1) (q .destination) (recordsOf site) (x .direction) (x .line)
+crossingPasses st site q x = lineLetsPass st (q .kind) (q .destination) (recordsOf site) (x .direction) (x .line)
 
 abbrev pub allPass : (Crossing → Bool) → List Crossing → Bool
 allPass f [] = true
@@ -36,14 +28,10 @@ lasts count crossed = eqb count 7 || leb crossed count
 unfoldable pub isListed : (Crossing → Bool) → ℕ → ℕ → ℕ → Bool
 isListed f start count line = allPass f (path start line) && lasts count (distance start line)
 
--- "count on arrival (7, or c minus d)"
-unfoldable pub onArrival : ℕ → ℕ → ℕ
-onArrival count crossed = cond (eqb count 7) 7 (count - crossed)
-
 -- "Each listed line takes three octets: line, count on arrival (7, or c minus d), couplers crossed."
-unfoldable pub entry : (Crossing → Bool) → ℕ → ℕ → ℕ → List ℕ
-entry f start count line =
-    cond (isListed f start count line) (line ∷ onArrival count (distance start line) ∷ distance start line ∷ []) []
+unfoldable pub entry : (Crossing → Bool) → Query → ℕ → List ℕ
+entry f q line =
+    cond (isListed f (q .start) (q .count) line) (line ∷ onArrival q (distance (q .start) line) ∷ distance (q .start) line ∷ []) []
 
 -- these three stand in a room, in one of its first places
 pub record StandsIn (room : List ℕ) (places line count crossed : ℕ) : Type 0 where
@@ -62,26 +50,26 @@ countBelow f (suc n) = countBelow f n + cond (f n) 1 0
 
 -- "All 256 lines exist"
 unfoldable pub listed : Stores → List ℕ → Query → List ℕ
-listed st site q = eachBelow (entry (crossingPasses st site q) (q .start) (q .count)) 256
+listed st site q = eachBelow (entry (crossingPasses st site q) q) 256
 
 unfoldable pub linesListed : Stores → List ℕ → Query → ℕ
 linesListed st site q = countBelow (isListed (crossingPasses st site q) (q .start) (q .count)) 256
 
 -- "the number of forwardings made on the site": a coupler makes one in a direction of travel if the telegram comes to the line that the
 -- crossing leads from, and not over that very coupler, the coupler is fitted and lets it pass, and the count on arrival is not 0
-unfoldable pub isForwarding : (Crossing → Bool) → ℕ → ℕ → Crossing → Bool
-isForwarding f start count x =
-    isListed f start count (fromLine x)
-    && not (cameOver (path start (fromLine x)) (x .line))
+unfoldable pub isForwarding : (Crossing → Bool) → Query → Crossing → Bool
+isForwarding f q x =
+    isListed f (q .start) (q .count) (fromLine x)
+    && not (cameOver (path (q .start) (fromLine x)) (x .line))
     && f x
-    && not (eqb (onArrival count (distance start (fromLine x))) 0)
+    && not (eqb (onArrival q (distance (q .start) (fromLine x))) 0)
 
 -- "Every line n from 01h to FFh may have a coupler"
 abbrev pub couplersWith : (ℕ → Bool) → ℕ
 couplersWith holds = countBelow (λ n. holds (suc n)) 255
 
-abbrev pub forwardingsBy : (Crossing → Bool) → ℕ → ℕ → ℕ
-forwardingsBy f start count = couplersWith (λ n. isForwarding f start count (down n)) + couplersWith (λ n. isForwarding f start count (up n))
+abbrev pub forwardingsBy : (Crossing → Bool) → Query → ℕ
+forwardingsBy f q = couplersWith (λ n. isForwarding f q (down n)) + couplersWith (λ n. isForwarding f q (up n))
 
 unfoldable pub forwardings : Stores → List ℕ → Query → ℕ
-forwardings st site q = forwardingsBy (crossingPasses st site q) (q .start) (q .count)
+forwardings st site q = forwardingsBy (crossingPasses st site q) q

@@ -13,7 +13,9 @@ use Rattle.site.specs.WellFormed.{isAmong}
 use Rattle.tracer.specs.Lines.{mainSide, mainSides, beforeCommon, Crossing, upOver, path, distance}
 use Rattle.tracer.specs.declared.Traced.{Traced}
 use Rattle.tracer.specs.Tracing.{tracedBy, listBy}
-use Rattle.tracer.specs.Listing.{Query, lasts, isListed, onArrival, countBelow}
+use Rattle.tracer.specs.Query.{onArrival}
+use Rattle.tracer.specs.Listing.{lasts, isListed, countBelow}
+use Rattle.tracer.specs.declared.Query.{Query}
 
 -- one coupler hands it on if it lets it pass and the count lasts
 unfoldable pub handed : ℕ → ℕ → Bool → ℕ
@@ -56,9 +58,9 @@ unfoldable pub isReached : List ℕ → ℕ → Bool
 isReached lines line = ltb 0 (getD lines line 0)
 
 -- the three octets of a line, by how many lines the telegram has been put on
-unfoldable pub entryBy : ℕ → List ℕ → ℕ → List ℕ
-entryBy count lines line =
-    cond (isReached lines line) (line ∷ onArrival count (getD lines line 0 - 1) ∷ (getD lines line 0 - 1) ∷ []) []
+unfoldable pub entryBy : Query → List ℕ → ℕ → List ℕ
+entryBy q lines line =
+    cond (isReached lines line) (line ∷ onArrival q (getD lines line 0 - 1) ∷ (getD lines line 0 - 1) ∷ []) []
 
 -- nothing refused: the list at the front of the room, "octets behind the list stay"
 pub record DidList (st : Stores) (site : List ℕ) (q : Query) (room : List ℕ) (answer : Traced) (room′ : List ℕ) : Type 0 where

@@ -1,9 +1,9 @@
 -- The trace: document 01, "Sites and the tracer".
 use Prim.Native.Nat.{ℕ}
-use mathlib.Core.Bool.{Bool, not, _&&_}
+use mathlib.Core.Bool.{not}
 use mathlib.Core.List.{List, [], _∷_}
 use mathlib.Core.Path.{_≡_}
-use lib.Dec.{ltb, leb}
+use lib.Dec.{ltb}
 use lib.ListN.{length}
 use Rattle.frame.specs.Order.{Test, firstOf, _gives_}
 use Rattle.frame.specs.declared.Verdict.the-variants.{Fine, Refuse}
@@ -13,13 +13,12 @@ use Rattle.frame.specs.declared.Refusal.the-variants.{SmallRoom, OutOfRange}
 use Rattle.octets.specs.Room.{over}
 use Rattle.site.specs.Stores.{Stores}
 use Rattle.site.specs.WellFormed.{siteTests}
-use Rattle.tracer.specs.Listing.{Query, listed, linesListed, forwardings}
+use Rattle.tracer.specs.Query.{isQuery}
+use Rattle.tracer.specs.Listing.{listed, linesListed, forwardings}
+use Rattle.tracer.specs.declared.Query.{Query}
 use Rattle.tracer.specs.declared.Traced.{Traced}
 
 -- "Order: 14 (kind, count), 13 (room below 768), 18 (store sizes), 16 (length), then record by record"
-abbrev pub isQuery : Query → Bool
-isQuery q = leb (q .kind) 1 && leb (q .count) 7
-
 abbrev pub traceTests : Stores → List ℕ → Query → ℕ → List Test
 traceTests st site q room =
     not (isQuery q) gives OutOfRange

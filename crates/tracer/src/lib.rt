@@ -8,16 +8,23 @@ ghost use mathlib.Core.Path.{_≡_};
 ghost use Prim.Native.Nat.{_≤_};
 ghost use lib.ListN.{length};
 ghost use Rattle.frame.specs.Order.{firstOf};
-ghost use Rattle.coupler.specs.Step.{judgedBy};
 ghost use Rattle.site.specs.Stores.{stores};
 ghost use Rattle.tracer.specs.Lines.{mainSide};
-ghost use Rattle.tracer.specs.Listing.{queryOf};
+ghost use Rattle.tracer.specs.Query.{hoppedIn, onArrival};
 ghost use Rattle.tracer.specs.Tracing.{traceTests, DidTrace};
 ghost use Rattle.tracer.specs.Reaching.{DidList};
 ghost use Rattle.tracer.specs.Why.{answerWhy};
-use coupler::Judged;
-use coupler::Passage;
 use frame::Refusal;
+use frame::Verdict;
+use passing::Passage;
+
+// What a planner asks: starting line, kind (0 individual, 1 group), destination, count.
+pub struct Query {
+    pub start: u8,
+    pub kind: u8,
+    pub destination: u16,
+    pub count: u8,
+}
 
 // "The result also carries the number of forwardings made on the site".
 pub struct Traced {
@@ -58,48 +65,52 @@ pub fn main_side(line: u8) -> u8
     if line % 16 == 0 { 0 } else { line - line % 16 }
 }
 
-// "Order: 14 (kind, count), 13 (room below 768), 18 (store sizes), 16 (length), then record by record"
-fn judge<'a>(
-    kind: u8,
-    count: u8,
-    site: &[u8],
-    project: &'a [u8],
-    own: &'a [u8],
-    room: usize,
-) -> Judged
-    ensures { λ r. ⌜ r ≡ judgedBy (firstOf (traceTests (stores (now (project .entry)) (now (own .entry))) (now (site .entry)) (queryOf 0 kind 0 count) room)) ⌝ }
+// The count with which a coupler hands the telegram on.
+fn hopped(query: Query, count: u8) -> u8
+    ensures { λ r. ⌜ r ≡ hoppedIn query count ⌝ }
 {
-    let asked = (kind <= 1) & (count <= 7);
-    if asked {
-        if room < 768 {
-            return Judged::Refused(Refusal::SmallRoom);
-        }
-        site::judge(site, project, own)
+    passing::hopped_count(count)
+}
+
+// "count on arrival (7, or c minus d)"
+fn on_arrival(query: Query, crossed: u8) -> u8
+    ensures { λ r. ⌜ r ≡ onArrival query crossed ⌝ }
+{
+    if passing::stays(query.count) {
+        return 7;
+    }
+    if crossed <= query.count {
+        query.count - crossed
     } else {
-        Judged::Refused(Refusal::OutOfRange)
+        0
     }
 }
 
-fn list<'a>(
-    start: u8,
-    kind: u8,
-    destination: u16,
-    count: u8,
-    site: &[u8],
-    project: &'a [u8],
-    own: &'a [u8],
-    room: &mut [u8],
-) -> Traced
-    requires { ⌜ 768 ≤ length (now room) ⌝ }
-    ensures { λ r. ⌜ DidList (stores (now (project .entry)) (now (own .entry))) (now (site .entry)) (queryOf start kind destination count) (now (room .entry)) r (now (room .exit)) ⌝ }
+// "Order: 14 (kind, count), 13 (room below 768), 18 (store sizes), 16 (length), then record by record"
+fn judge<'a>(query: Query, site: &[u8], project: &'a [u8], own: &'a [u8], room: usize) -> Verdict
+    ensures { λ r. ⌜ r ≡ firstOf (traceTests (stores (now (project .entry)) (now (own .entry))) (now (site .entry)) query room) ⌝ }
 {
-    let group = kind == 1;
-    let passing = site::letting(site, project, own, group, destination);
+    let asked = (query.kind <= 1) & (query.count <= 7);
+    if asked {
+        if room < 768 {
+            return Verdict::Refuse(Refusal::SmallRoom);
+        }
+        site::judge(site, project, own)
+    } else {
+        Verdict::Refuse(Refusal::OutOfRange)
+    }
+}
+
+fn list<'a>(query: Query, site: &[u8], project: &'a [u8], own: &'a [u8], room: &mut [u8]) -> Traced
+    requires { ⌜ 768 ≤ length (now room) ⌝ }
+    ensures { λ r. ⌜ DidList (stores (now (project .entry)) (now (own .entry))) (now (site .entry)) query (now (room .entry)) r (now (room .exit)) ⌝ }
+{
+    let passing = site::letting(site, project, own, query.kind, query.destination);
     let down = passing.down;
     let up = passing.up;
-    let arrivals = reaching::spread(&down, &up, start, count);
+    let arrivals = reaching::spread(&down, &up, query.start, query.count);
     let reached = arrivals.lines;
-    let lines = listing::list(&reached, count, room);
+    let lines = listing::list(&reached, query, room);
     Traced {
         number: 0,
         lines,
@@ -110,50 +121,37 @@ fn list<'a>(
 // Lists the lines that a telegram comes to, as a first sending put on the starting line, at the front
 // of the room: three octets for each, in rising order.
 pub fn trace<'a>(
-    start: u8,
-    kind: u8,
-    destination: u16,
-    count: u8,
+    query: Query,
     site: &[u8],
     project: &'a [u8],
     own: &'a [u8],
     room: &mut [u8],
 ) -> Traced
-    ensures { λ r. ⌜ DidTrace (stores (now (project .entry)) (now (own .entry))) (now (site .entry)) (queryOf start kind destination count) (now (room .entry)) r (now (room .exit)) ⌝ }
+    ensures { λ r. ⌜ DidTrace (stores (now (project .entry)) (now (own .entry))) (now (site .entry)) query (now (room .entry)) r (now (room .exit)) ⌝ }
 {
-    let judged = judge(kind, count, site, project, own, room.len());
+    let judged = judge(query, site, project, own, room.len());
     match judged {
-        Judged::Refused(refusal) => Traced {
+        Verdict::Refuse(refusal) => Traced {
             number: refusal.number(),
             lines: 0,
             forwardings: 0,
         },
-        Judged::Fine => list(start, kind, destination, count, site, project, own, room),
+        Verdict::Fine => list(query, site, project, own, room),
     }
 }
 
 // Whether the telegram comes to a line; if not, the first coupler on the path that does not hand it
 // on, in which direction, and why.
-pub fn why<'a>(
-    start: u8,
-    kind: u8,
-    destination: u16,
-    count: u8,
-    site: &[u8],
-    project: &'a [u8],
-    own: &'a [u8],
-    line: u8,
-) -> Explanation
-    ensures { λ r. ⌜ r ≡ answerWhy (stores (now (project .entry)) (now (own .entry))) (now (site .entry)) (queryOf start kind destination count) line ⌝ }
+pub fn why<'a>(query: Query, site: &[u8], project: &'a [u8], own: &'a [u8], line: u8) -> Explanation
+    ensures { λ r. ⌜ r ≡ answerWhy (stores (now (project .entry)) (now (own .entry))) (now (site .entry)) query line ⌝ }
 {
-    let judged = judge(kind, count, site, project, own, 768);
-    if let Judged::Refused(refusal) = judged {
+    let judged = judge(query, site, project, own, 768);
+    if let Verdict::Refuse(refusal) = judged {
         return Explanation::Refused(refusal);
     }
-    let group = kind == 1;
-    let sent = Walk::Going(count);
-    let joined = walking::walk_up(site, project, own, group, destination, sent, start, line);
-    let walk = walking::walk_down(site, project, own, group, destination, joined, start, line);
+    let sent = Walk::Going(query.count);
+    let joined = walking::walk_up(query, site, project, own, sent, query.start, line);
+    let walk = walking::walk_down(query, site, project, own, joined, query.start, line);
     match walk {
         Walk::Going(_) => Explanation::Reached,
         Walk::Stopped(stop) => Explanation::NotReached(stop),

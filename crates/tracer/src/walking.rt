@@ -1,12 +1,13 @@
 // A telegram followed over the couplers of one path, to the first that does not hand it on.
 ghost use mathlib.Core.Path.{_≡_};
-ghost use Rattle.coupler.specs.Passing.{doesPass};
+ghost use Rattle.passing.specs.Passing.{doesPass};
 ghost use Rattle.site.specs.Stores.{stores};
 ghost use Rattle.tracer.specs.Lines.{mainSides, beforeCommon, upOver, downOver, crossing};
 ghost use Rattle.tracer.specs.Why.{handedOn, walked};
+use crate::Query;
 use crate::Stop;
 use crate::Walk;
-use coupler::Passage;
+use passing::Passage;
 
 fn does_pass(passage: Passage) -> bool
     ensures { λ r. ⌜ r ≡ doesPass passage ⌝ }
@@ -24,16 +25,15 @@ fn does_pass(passage: Passage) -> bool
 }
 
 fn hand_on<'a>(
+    query: Query,
     site: &[u8],
     project: &'a [u8],
     own: &'a [u8],
-    group: bool,
-    destination: u16,
     walk: Walk,
     direction: u8,
     coupler: u8,
 ) -> Walk
-    ensures { λ r. ⌜ r ≡ handedOn (stores (now (project .entry)) (now (own .entry))) (now (site .entry)) group destination walk (crossing direction coupler) ⌝ }
+    ensures { λ r. ⌜ r ≡ handedOn (stores (now (project .entry)) (now (own .entry))) (now (site .entry)) query walk (crossing direction coupler) ⌝ }
 {
     match walk {
         Walk::Stopped(stop) => Walk::Stopped(stop),
@@ -44,12 +44,12 @@ fn hand_on<'a>(
                 own,
                 coupler,
                 direction,
-                group,
-                destination,
+                query.kind,
+                query.destination,
                 count,
             );
             if does_pass(reason) {
-                return Walk::Going(coupler::hopped_count(count));
+                return Walk::Going(crate::hopped(query, count));
             }
             Walk::Stopped(Stop {
                 coupler,
@@ -62,58 +62,38 @@ fn hand_on<'a>(
 
 // Up from a line to the first that the other's main sides have too.
 pub(crate) fn walk_up<'a>(
+    query: Query,
     site: &[u8],
     project: &'a [u8],
     own: &'a [u8],
-    group: bool,
-    destination: u16,
     walk: Walk,
     from: u8,
     to: u8,
 ) -> Walk
-    ensures { λ r. ⌜ r ≡ walked (stores (now (project .entry)) (now (own .entry))) (now (site .entry)) group destination walk (upOver (beforeCommon (mainSides from) (mainSides to))) ⌝ }
+    ensures { λ r. ⌜ r ≡ walked (stores (now (project .entry)) (now (own .entry))) (now (site .entry)) query walk (upOver (beforeCommon (mainSides from) (mainSides to))) ⌝ }
 {
     if crate::lines::is_above(from, to) {
         return walk;
     }
-    let next = hand_on(site, project, own, group, destination, walk, 1, from);
-    walk_up(
-        site,
-        project,
-        own,
-        group,
-        destination,
-        next,
-        crate::main_side(from),
-        to,
-    )
+    let next = hand_on(query, site, project, own, walk, 1, from);
+    walk_up(query, site, project, own, next, crate::main_side(from), to)
 }
 
 // Down to a line from the first of its main sides that the other's have too.
 pub(crate) fn walk_down<'a>(
+    query: Query,
     site: &[u8],
     project: &'a [u8],
     own: &'a [u8],
-    group: bool,
-    destination: u16,
     walk: Walk,
     from: u8,
     to: u8,
 ) -> Walk
-    ensures { λ r. ⌜ r ≡ walked (stores (now (project .entry)) (now (own .entry))) (now (site .entry)) group destination walk (downOver (beforeCommon (mainSides to) (mainSides from))) ⌝ }
+    ensures { λ r. ⌜ r ≡ walked (stores (now (project .entry)) (now (own .entry))) (now (site .entry)) query walk (downOver (beforeCommon (mainSides to) (mainSides from))) ⌝ }
 {
     if crate::lines::is_above(to, from) {
         return walk;
     }
-    let main = walk_down(
-        site,
-        project,
-        own,
-        group,
-        destination,
-        walk,
-        from,
-        crate::main_side(to),
-    );
-    hand_on(site, project, own, group, destination, main, 0, to)
+    let main = walk_down(query, site, project, own, walk, from, crate::main_side(to));
+    hand_on(query, site, project, own, main, 0, to)
 }

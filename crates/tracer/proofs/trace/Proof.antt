@@ -7,15 +7,22 @@ use Rattle.tracer.proofs.trace.Tie as tie
 
 list-requires : tie.Need-list-requires
 list-requires c κs =
-    trace-room (stores (c .before .before .before .before .before .before .before .before .args .project .now) (c .before .before .before .before .before .before .before .before .args .own .now)) (c .before .before .before .before .before .before .before .before .args .site .now) (c .before .before .before .before .before .before .before .before .args .kind) (c .before .before .before .before .before .before .before .before .args .count) (c .before .before .before .before .before .before .before .before .args .room .now) (c .before .before .before .judge .ensures) (c .before .enum-told .given .1)
+    let judge = c .before .before .before .judge in
+    let back = c .before .before .before .before .before .before in
+    let begun = back .before .before in
+    let a = begun .args in
+    trace-room (stores (a .project .now) (a .own .now)) (a .site .now) (a .query) (a .room .now) (judge .ensures) (c .before .enum-told .given .1)
 
 returns : tie.Need-returns
 returns c =
-    trace-refused _ _ _ _ _ (c .before .before .before .before .judge .ensures) _ _ _ (c .before .before .judged .given .1) (c .number .ensures)
+    let judge = c .before .before .before .before .judge in
+    trace-refused _ _ _ _ (judge .ensures) _ (c .before .before .judged .given .1) (c .number .ensures)
 
 returns-2 : tie.Need-returns-2
 returns-2 c =
-    trace-listed _ _ _ _ _ (c .before .before .before .before .before .before .judge .ensures) _ _ (c .before .before .before .before .enum-told .given .1) (c .before .before .list .ensures)
+    let enum-told = c .before .before .before .before .enum-told in
+    let judge = c .before .before .before .before .before .before .judge in
+    trace-listed _ _ _ _ (judge .ensures) (enum-told .given .1) (c .before .before .list .ensures)
 
 pub trace-spec : {M : Type 1} → statement M
 trace-spec =

@@ -6,16 +6,16 @@ use Rattle.tracer.proofs.listing.list.Statement.{statement}
 use Rattle.tracer.proofs.listing.list.Tie as tie
 
 abbrev Inv-loop : tie.InvT-loop
-Inv-loop lines count room₀ listed₀ line₀ room listed line =
-    Listing count lines room₀ room listed line
+Inv-loop lines query room₀ listed₀ line₀ room listed line =
+    Listing query lines room₀ room listed line
 
 abbrev μ-loop : tie.MeasureT-loop
-μ-loop lines count room₀ listed₀ line₀ room listed line =
+μ-loop lines query room₀ listed₀ line₀ room listed line =
     256 - line
 
 loop-holds : tie.Need-loop-holds Inv-loop μ-loop
 loop-holds c =
-    listing-none (c .before .args .count) (c .before .args .lines .now) (c .before .args .room .now)
+    listing-none (c .before .args .query) (c .before .args .lines .now) (c .before .args .room .now)
 
 cast-list-line : tie.Need-cast-list-line Inv-loop μ-loop
 cast-list-line c =

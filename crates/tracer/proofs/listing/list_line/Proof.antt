@@ -6,11 +6,18 @@ use Rattle.tracer.proofs.listing.list_line.Tie as tie
 
 returns : tie.Need-returns
 returns c =
-    line-none (c .before .before .before .args .count) (c .before .before .before .args .line) (c .before .before .before .args .listed) (c .before .before .before .args .lines .now) (c .before .before .before .args .room .now) (c .if1 .taken)
+    let begun = c .before .before .before in
+    let a = begun .args in
+    line-none (a .query) (a .line) (a .listed) (a .lines .now) (a .room .now) (c .if1 .taken)
 
 returns-2 : tie.Need-returns-2
 returns-2 c =
-    line-laid (c .before .before .before .before .before .before .before .before .before .args .count) (c .before .before .before .before .before .before .before .before .before .args .line) (c .before .before .before .before .before .before .before .before .before .args .listed) (c .before .before .before .before .before .before .before .before .before .args .lines .now) (c .before .before .before .before .before .before .before .before .before .args .room .now) (c .before .before .before .before .before .before .if1 .left) (c .before .before .before .before .before .on-arrival .ensures) (c .before .before .lay .ensures)
+    let on-arrival = c .before .before .before .before .before .on-arrival in
+    let if1 = c .before .before .before .before .before .before .if1 in
+    let back = c .before .before .before .before .before .before in
+    let begun = back .before .before .before in
+    let a = begun .args in
+    line-laid (a .query) (a .line) (a .listed) (a .lines .now) (a .room .now) (if1 .left) (on-arrival .ensures) (c .before .before .lay .ensures)
 
 pub list-line-spec : {M : Type 1} → statement M
 list-line-spec =

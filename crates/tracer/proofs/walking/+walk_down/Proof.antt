@@ -18,7 +18,7 @@ use Rattle.tracer.proofs.walking.+walk_down.{statement}
 use Rattle.tracer.proofs.walking.+walk_down.Tie.{close}
 
 abbrev μ-walk-down : Measures 2 walk-down-kinds.ps ℕ
-μ-walk-down κs a = depth (a .1 .1 .1 .1 .1 .1 .1 .0)
+μ-walk-down κs a = depth (a .1 .1 .1 .1 .1 .1 .0)
 
 abbrev walk-down-at : ℕ → In 2 walk-down-kinds.ps
 walk-down-at t = and 2 walk-down-kinds.ps (is 2 walk-down-kinds.ps μ-walk-down t) walk-down.Pre
@@ -38,7 +38,7 @@ walk-down-returns : (t : ℕ) → walk-down-lts.Need-returns (
   hand-on-reads.Learnt,
 ) (walk-down-at t) walk-down.Post
 walk-down-returns t c =
-    down-joined _ _ _ _ _ _ _ (c .before .is-above .ensures) (c .if1 .taken)
+    down-joined _ _ _ _ _ _ (c .before .is-above .ensures) (c .if1 .taken)
 
 walk-down-walk-down-requires : (t : ℕ) → walk-down-lts.Need-walk-down-requires (
   is-above-reads.Asked,
@@ -64,7 +64,7 @@ walk-down-returns-2 : (t : ℕ) → walk-down-lts.Need-returns-2 (
   hand-on-reads.Learnt,
 ) (walk-down-at t) walk-down.Post
 walk-down-returns-2 t c =
-    down-more _ _ _ _ _ _ _ (c .before .before .before .before .is-above .ensures) (c .before .before .before .if1 .left) (c .before .before .main-side .ensures) (c .before .walk-down .ensures) (c .hand-on .ensures)
+    down-more _ _ _ _ _ _ (c .before .before .before .before .is-above .ensures) (c .before .before .before .if1 .left) (c .before .before .main-side .ensures) (c .before .walk-down .ensures) (c .hand-on .ensures)
 
 pub +walk-down-spec : {M : Type 1} → statement M
 +walk-down-spec = close μ-walk-down λ t. walk-down-lts.spec (

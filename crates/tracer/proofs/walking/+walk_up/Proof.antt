@@ -18,7 +18,7 @@ use Rattle.tracer.proofs.walking.+walk_up.{statement}
 use Rattle.tracer.proofs.walking.+walk_up.Tie.{close}
 
 abbrev μ-walk-up : Measures 2 walk-up-kinds.ps ℕ
-μ-walk-up κs a = depth (a .1 .1 .1 .1 .1 .1 .0)
+μ-walk-up κs a = depth (a .1 .1 .1 .1 .1 .0)
 
 abbrev walk-up-at : ℕ → In 2 walk-up-kinds.ps
 walk-up-at t = and 2 walk-up-kinds.ps (is 2 walk-up-kinds.ps μ-walk-up t) walk-up.Pre
@@ -37,7 +37,7 @@ walk-up-returns : (t : ℕ) → walk-up-lts.Need-returns (
   walk-up.Post,
 ) (walk-up-at t) walk-up.Post
 walk-up-returns t c =
-    up-joined _ _ _ _ _ _ _ (c .before .is-above .ensures) (c .if1 .taken)
+    up-joined _ _ _ _ _ _ (c .before .is-above .ensures) (c .if1 .taken)
 
 walk-up-walk-up-requires : (t : ℕ) → walk-up-lts.Need-walk-up-requires (
   is-above-reads.Asked,
@@ -63,7 +63,7 @@ walk-up-returns-2 : (t : ℕ) → walk-up-lts.Need-returns-2 (
   walk-up.Post,
 ) (walk-up-at t) walk-up.Post
 walk-up-returns-2 t c =
-    up-more _ _ _ _ _ _ _ (c .before .before .before .before .is-above .ensures) (c .before .before .before .if1 .left) (c .before .before .hand-on .ensures) (c .before .main-side .ensures) (c .walk-up .ensures)
+    up-more _ _ _ _ _ _ (c .before .before .before .before .is-above .ensures) (c .before .before .before .if1 .left) (c .before .before .hand-on .ensures) (c .before .main-side .ensures) (c .walk-up .ensures)
 
 pub +walk-up-spec : {M : Type 1} → statement M
 +walk-up-spec = close μ-walk-up λ t. walk-up-lts.spec (

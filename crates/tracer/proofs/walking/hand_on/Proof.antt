@@ -6,15 +6,18 @@ use Rattle.tracer.proofs.walking.hand_on.Tie as tie
 
 returns : tie.Need-returns
 returns c =
-    hand-goes _ _ _ _ _ _ (c .before .before .before .before .before .walk2 .given .1) (c .before .before .before .why-not .ensures) (c .before .before .does-pass .ensures) (c .before .if1 .taken) (c .hopped-count .ensures)
+    let why-not = c .before .before .before .why-not in
+    let walk2 = c .before .before .before .before .before .walk2 in
+    hand-goes _ _ _ _ _ (walk2 .given .1) (why-not .ensures) (c .before .before .does-pass .ensures) (c .before .if1 .taken) (c .hopped .ensures)
 
 returns-2 : tie.Need-returns-2
 returns-2 c =
-    hand-stopped _ _ _ _ _ _ (c .before .walk .given .1)
+    hand-stopped _ _ _ _ _ (c .before .walk .given .1)
 
 returns-3 : tie.Need-returns-3
 returns-3 c =
-    hand-stops _ _ _ _ _ _ (c .before .before .before .before .walk2 .given .1) (c .before .before .why-not .ensures) (c .before .does-pass .ensures) (c .if1 .left)
+    let walk2 = c .before .before .before .before .walk2 in
+    hand-stops _ _ _ _ _ (walk2 .given .1) (c .before .before .why-not .ensures) (c .before .does-pass .ensures) (c .if1 .left)
 
 pub hand-on-spec : {M : Type 1} → statement M
 hand-on-spec =

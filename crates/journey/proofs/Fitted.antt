@@ -8,7 +8,7 @@ use native.Mathlib.Omega.{arith}
 use lib.Dec.{ltb, eqb}
 use lib.ListN.{length, take, drop}
 use borrow.Author.Tests.{eqb-true, not-false, lt-ltb, le-ltb, eq-eqb}
-use Rattle.coupler.specs.Settings.{areCodes, asksTable, tableFits}
+use Rattle.passing.specs.Settings.{areCodes, asksTable, tableFits}
 use Rattle.coupler.specs.Step.{settingTests}
 use Rattle.frame.proofs.Order.{passed-iff}
 use Rattle.frame.specs.Order.{firstOf, NoneOf}
@@ -18,9 +18,9 @@ use Rattle.octets.specs.Octets.{Octets}
 use Rattle.site.specs.Records.{recordsBy, recordsOf, lineOf, codesOf, tableNumber, couplerIn, couplerOf, isFitted}
 use Rattle.site.specs.Stores.{Stores, tableOf}
 use Rattle.site.specs.WellFormed.{hasTable, recordsTests, siteTests}
 use Rattle.tracer.proofs.Paths.{by-cases, never}
-use Rattle.tracer.specs.Journey.{AtWork, isIp, settingBy}
+use Rattle.journey.specs.Journey.{AtWork, isIp, settingBy}
 use Rattle.tracer.specs.Lines.{mainSide}
 
 -- the record of a line, as a well-formed site has it
 pub record IsSet (st : Stores) (line : ℕ) (r : List ℕ) : Type 0 where

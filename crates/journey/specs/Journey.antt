@@ -13,8 +13,9 @@ use Rattle.routing.specs.Layout.{routingOctets}
 use Rattle.site.specs.Records.{recordsOf, lineOf, codesOf, tableNumber, couplerOf, isFitted}
 use Rattle.site.specs.Stores.{Stores, tableOf}
 use Rattle.tp1.specs.Layout.{tp1Octets}
 use Rattle.tracer.specs.Lines.{mainSide, Crossing, fromLine, toLine, cameOver}
-use Rattle.tracer.specs.Listing.{Query, queryOf}
+use Rattle.tracer.specs.Query.{queryOf}
+use Rattle.tracer.specs.declared.Query.{Query}
 
 -- a site at work: its stores and records, what the coupler of each line remembers (anything, also what no frame is), and which lines are
 -- meant to be IP

@@ -7,10 +7,10 @@ use mathlib.Core.Path.{_≡_, refl, sym, ap, _∙_}
 use native.Mathlib.Omega.{arith}
 use lib.Dec.{ltb, eqb}
 use borrow.Author.Tests.{ltb-true, ltb-false, eqb-true, eqb-false, lt-ltb, le-ltb}
 use Rattle.tracer.proofs.Paths.{by-cases}
-use Rattle.tracer.specs.Journey.{SoMany}
+use Rattle.journey.specs.Journey.{SoMany}
 use Rattle.tracer.specs.Lines.{Crossing, crossing, up, down}
 use Rattle.tracer.specs.Listing.{countBelow}
 
 -- the number that is the i-th of those below n that are such
 nth : (ℕ → Bool) → ℕ → ℕ → ℕ

@@ -10,7 +10,7 @@ use native.Mathlib.Omega.{arith}
 use lib.Dec.{eqb}
 use lib.ListN.{length}
 use borrow.Author.Tests.{eqb-false, not-true, ne-eqb}
-use Rattle.coupler.specs.Passing.{hopped}
+use Rattle.passing.specs.Passing.{hopped}
 use Rattle.coupler.specs.Step.{readBy, forwardedMeaning, frame}
 use Rattle.frame.proofs.Valid.{ranges-of, ranged}
 use Rattle.frame.specs.Order.{firstOf}
@@ -22,17 +22,18 @@ use Rattle.octets.specs.Octets.{Octets}
 use Rattle.site.specs.Letting.{recordPasses, lineLetsPass}
 use Rattle.site.specs.Records.{recordsOf, isFitted}
 use Rattle.site.specs.WellFormed.{siteTests}
 use Rattle.tracer.proofs.CountLaws.{arrival-none, arrival-below, hopped-more}
 use Rattle.tracer.proofs.Crossings.{goes-on, last-of, distance-more, listed-more, forwarding-is}
-use Rattle.tracer.proofs.Fitted.{fitted-set, fitted-line, fitted-below}
-use Rattle.tracer.proofs.Handing.{one-if, form-on-read, hands-line, hands-side, hands-passes, passes-hands}
+use Rattle.journey.proofs.Fitted.{fitted-set, fitted-line, fitted-below}
+use Rattle.journey.proofs.Handing.{one-if, form-on-read, hands-line, hands-side, hands-passes, passes-hands}
 use Rattle.tracer.proofs.ListLaws.{start-listed}
 use Rattle.tracer.proofs.Paths.{by-cases, main-below, path-same, distance-same, distance-zero}
-use Rattle.tracer.proofs.SoMany.{Counted, so-many}
+use Rattle.journey.proofs.SoMany.{Counted, so-many}
 use Rattle.tracer.proofs.Standing.{ListedWith}
-use Rattle.tracer.specs.Journey.{AtWork, ownCoupler, isIp, formOn, Hands, Arrives, Sends, SoMany, ArrivesWith, askedOf, withCount, put-there, handed-on}
+use Rattle.journey.specs.Journey.{AtWork, ownCoupler, isIp, formOn, Hands, Arrives, Sends, SoMany, ArrivesWith, askedOf, withCount, put-there, handed-on}
 use Rattle.tracer.specs.Lines.{mainSide, Crossing, fromLine, toLine, cameOver, path, distance}
-use Rattle.tracer.specs.Listing.{crossingPasses, isListed, onArrival, isForwarding, forwardings}
+use Rattle.tracer.specs.Query.{onArrival}
+use Rattle.tracer.specs.Listing.{crossingPasses, isListed, isForwarding, forwardings}
 
 forwarded-with : (m : Meaning) (k : ℕ) → m .first ≡ true → forwardedMeaning (withCount k m) ≡ withCount (hopped k) m
 forwarded-with m k e = let f : true ≡ m .first = sym e in λ i. record { extended = m .extended; first = f i; priority = m .priority; source = m .source; group = m .group; destination = m .destination; count = hopped k }

@@ -13,7 +13,7 @@ use Rattle.cemi.specs.Writing.{messageInRange}
 use Rattle.cemi.specs.declared.CemiAnswer.{CemiAnswer}
 use Rattle.coupler.proofs.Promised.{Forwardable, Forwards, forwarded-iff, sent-is}
 use Rattle.coupler.specs.Memory.{recalled, sideOf, isRepetition}
-use Rattle.coupler.specs.Passing.{mayPass}
+use Rattle.passing.specs.Passing.{mayPass}
 use Rattle.coupler.specs.Step.{Setting, settingTests, fromIp, Heard, heardTp1, heardIp, readBy, after, heard, forwardedMeaning, indication, formOf, forwardedOctets, outcomeOf, sent, memoryAfter, Did, frame, nothing}
 use Rattle.coupler.specs.declared.Memory.{Memory}
 use Rattle.coupler.specs.declared.Outcome.{Outcome}
@@ -34,11 +34,11 @@ use Rattle.site.specs.WellFormed.{siteTests}
 use Rattle.tp1.proofs.RoundTrip.{laid-read, laid-payload}
 use Rattle.tp1.specs.Layout.{tp1Octets}
 use Rattle.tp1.specs.declared.Tp1Answer.{Tp1Answer}
-use Rattle.tracer.proofs.Fitted.{IsSet, fitted-set, fitted-line, set-passes}
+use Rattle.journey.proofs.Fitted.{IsSet, fitted-set, fitted-line, set-passes}
 use Rattle.tracer.proofs.Paths.{by-cases}
 use Rattle.tracer.proofs.ReachingLaws.{and-yes, and-false}
-use Rattle.tracer.specs.Journey.{AtWork, ownCoupler, isIp, formOn, settingBy, Hands}
+use Rattle.journey.specs.Journey.{AtWork, ownCoupler, isIp, formOn, settingBy, Hands}
 use Rattle.tracer.specs.Lines.{mainSide, Crossing, crossing, fromLine, toLine}
 
 -- a telegram in the form of a medium, read by that medium's reader
 form-read : (ip : Bool) (m : Meaning) (p : List ℕ) → Valid m p → readBy ip (cond ip (routingOctets (indication m) p) (tp1Octets m p)) ≡ frame m p

@@ -1,0 +1,4 @@
+pub mod Fitted
+pub mod SoMany
+pub mod Handing
+pub mod Journey
