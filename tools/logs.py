@@ -29,12 +29,12 @@ def complaints(log, folder):
         yield "/".join(("proofs", *module, sources.FN.search(behind).group(2), "")), said
 
 
-def is_proof_of(file, path):
+def is_proof_of(file, home):
     """Functions that call one another have one proof, in a folder with all their names: +a+b."""
     parts = tuple(file.split("/"))[1:-1]
-    return file.startswith("proofs/") and parts[:-1] == path[:-1] and path[-1] in parts[-1:] + tuple(parts[-1].split("+"))
+    return file.startswith("proofs/") and parts[:-1] == home[:-1] and home[-1] in parts[-1:] + tuple(parts[-1].split("+"))
 
 
-def complaints_of(path, log, folder):
+def complaints_of(home, log, folder):
     """The words on one function."""
-    return [said for file, said in complaints(log, folder) if is_proof_of(file, path)]
+    return [said for file, said in complaints(log, folder) if is_proof_of(file, home)]

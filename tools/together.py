@@ -8,8 +8,8 @@ import sources
 from sources import ROOT
 
 
-def paths(functions):
-    return {function.path for function in functions}
+def homes(functions):
+    return {function.home for function in functions}
 
 
 def touched(edit):
@@ -20,14 +20,14 @@ def touched(edit):
     before, after = sources.functions(edit.crate), sources.edited(edit)
     called = set()
     for function in before + after:
-        if function.path in paths(changed):
-            called |= paths(sources.reached(function, before)) | paths(sources.reached(function, after))
-    return paths(changed), called
+        if function.home in homes(changed):
+            called |= homes(sources.reached(function, before)) | homes(sources.reached(function, after))
+    return homes(changed), called
 
 
 def is_own(file, changed):
     """Whether a file of an edit is code, or the proof of a function that the edit changes."""
-    return file.startswith("src/") or any(logs.is_proof_of(file, function.path) for function in changed)
+    return file.startswith("src/") or any(logs.is_proof_of(file, function.home) for function in changed)
 
 
 def are_apart(one, other):
