@@ -42,10 +42,11 @@ fn octets_of(table: &[u8; 8192], is_there: bool) -> &[u8] {
     if is_there { whole } else { &whole[..0] }
 }
 
+// All that an outcome says, on a refusal too: "its number, none, not, 0".
 fn put_outcome(outcome: Outcome, room: &[u8]) {
     if 0 < outcome.number {
         text::put_refused(outcome.number);
-        return;
+        io::write_all(1, b" ");
     }
     let acknowledgement = outcome.acknowledgement;
     match acknowledgement {
