@@ -27,7 +27,7 @@ fn reference_step(
     memory: &mut Memory,
     octets: &[u8],
     room: &mut [u8],
-) -> Result<Outcome, u8> {
+) -> Outcome {
     reference::coupler::step(coupler, side, medium, memory, octets, room)
 }
 

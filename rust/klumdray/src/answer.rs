@@ -1,17 +1,23 @@
 //! Takes the library's answers apart, by the bits that `include/klumdray.h` names.
 
 use crate::cemi::Code;
-use crate::coupler::Side;
+use crate::coupler::{Acknowledgement, Side};
 use crate::tracer::{Reason, Why};
 use crate::{Meaning, Refusal};
+
+/// The refusal whose number an answer has.
+#[inline]
+fn refusal(answer: u64) -> Option<Refusal> {
+    match answer as u8 {
+        0 => None,
+        number => Some(Refusal::answered(number)),
+    }
+}
 
 /// An answer whose number is no refusal's.
 #[inline]
 fn accepted(answer: u64) -> Result<u64, Refusal> {
-    match answer as u8 {
-        0 => Ok(answer),
-        number => Err(Refusal::answered(number)),
-    }
+    refusal(answer).map_or(Ok(answer), Err)
 }
 
 /// A reader's answer that is not a refusal.
@@ -70,19 +76,23 @@ pub(crate) fn written(answer: u64) -> Result<usize, Refusal> {
     accepted(answer).map(|answer| (answer >> 8) as usize)
 }
 
-/// A step's answer that is not a refusal.
+/// A step's answer, a refusal or not: it has its four parts whatever the number is.
 #[derive(Clone, Copy)]
-pub(crate) struct Step(u64);
+pub(crate) struct Step(pub(crate) u64);
 
 impl Step {
     #[inline]
-    pub(crate) fn accepted(answer: u64) -> Result<Step, Refusal> {
-        accepted(answer).map(Step)
+    pub(crate) fn refusal(self) -> Option<Refusal> {
+        refusal(self.0)
     }
 
     #[inline]
-    pub(crate) fn acknowledged(self) -> bool {
-        (self.0 >> 8) as u8 == 0xcc
+    pub(crate) fn acknowledgement(self) -> Option<Acknowledgement> {
+        match (self.0 >> 8) as u8 {
+            0x00 => None,
+            0xcc => Some(Acknowledgement::Acknowledged),
+            _ => unreachable!("an acknowledgement is CCh or none"),
+        }
     }
 
     #[inline]

@@ -104,10 +104,10 @@ impl Memory {
     /// let closed = Settings { line: 0x11, codes: [[0; 4]; 2], table: &[] };
     /// let octets = [0xb0, 0xaf, 0xfe, 0x00, 0x00, 0xe1, 0x01, 0x00, 0xfe];
     /// let (mut memory, mut room) = (Memory::new(), [0; ROOM_SIZE]);
-    /// step(&closed, Side::Sub, Medium::Ip, &mut memory, &octets, &mut room)?;
+    /// let outcome = step(&closed, Side::Sub, Medium::Ip, &mut memory, &octets, &mut room);
+    /// assert_eq!(outcome.refusal, None);
     /// assert_eq!(memory.remembered(Side::Sub), Some(&octets[..]));
     /// assert_eq!(memory.remembered(Side::Main), None);
-    /// # Ok::<(), klumdray::Refusal>(())
     /// ```
     #[inline]
     pub fn remembered(&self, side: Side) -> Option<&[u8]> {
@@ -128,16 +128,79 @@ impl Default for Memory {
     }
 }
 
-/// What became of an accepted frame.
+/// What a TP1 frame is acknowledged with.
+#[derive(Clone, Copy, Debug, PartialEq, Eq, Hash)]
+pub enum Acknowledgement {
+    /// CCh: the frame is for the coupler itself, or its address, codes and count allow forwarding.
+    Acknowledged,
+}
+
+impl Acknowledgement {
+    /// The octet to send on the side that the frame came from.
+    ///
+    /// ```
+    /// assert_eq!(klumdray::coupler::Acknowledgement::Acknowledged.octet(), 0xcc);
+    /// ```
+    #[inline]
+    pub fn octet(self) -> u8 {
+        match self {
+            Acknowledgement::Acknowledged => 0xcc,
+        }
+    }
+}
+
+/// What became of the octets received: number, acknowledgement or none, for itself or not, octets
+/// forwarded. An outcome says all four also on a refusal: its number, none, not, 0.
 #[derive(Clone, Copy, Debug, PartialEq, Eq)]
+#[must_use = "an outcome may be a refusal, and has what is to be sent on either side"]
 pub struct Outcome<'a> {
-    /// Whether the frame gets the acknowledgement CCh; never from IP.
-    pub acknowledged: bool,
+    /// The refusal; none where the number is 0 and the frame is accepted.
+    pub refusal: Option<Refusal>,
+    /// What the frame is acknowledged with, if it is; never from IP.
+    pub acknowledgement: Option<Acknowledgement>,
     /// Whether the frame is for the coupler itself.
     pub own: bool,
-    /// The octets to send on the other side, the first of the room; none if the frame is not
-    /// forwarded.
+    /// The octets to send on the other side, the first of the room; none if nothing is forwarded.
     pub forwarded: &'a [u8],
+}
+
+impl<'a> Outcome<'a> {
+    /// The four parts of a step's answer, none of which is asked for another.
+    #[inline]
+    fn answered(answer: Step, room: &'a [u8]) -> Outcome<'a> {
+        Outcome {
+            refusal: answer.refusal(),
+            acknowledgement: answer.acknowledgement(),
+            own: answer.own(),
+            forwarded: &room[..answer.forwarded()],
+        }
+    }
+
+    /// The outcome of an accepted frame, for callers who go on with `?`. The error is the outcome
+    /// of a refused one, whole.
+    ///
+    /// ```
+    /// use klumdray::coupler::{step, Medium, Memory, Outcome, Settings, Side, ROOM_SIZE};
+    /// use klumdray::Refusal;
+    /// fn octets_sent<'a>(octets: &[u8], room: &'a mut [u8]) -> Result<usize, Outcome<'a>> {
+    ///     let open = Settings { line: 0x11, codes: [[2; 4]; 2], table: &[] };
+    ///     let outcome = step(&open, Side::Sub, Medium::Tp1, &mut Memory::new(), octets, room);
+    ///     Ok(outcome.accepted()?.forwarded.len())
+    /// }
+    /// let octets = [0xb0, 0xaf, 0xfe, 0x00, 0x00, 0xe1, 0x01, 0x00, 0xfe];
+    /// assert_eq!(octets_sent(&octets, &mut [0; ROOM_SIZE]), Ok(9));
+    /// let refused = Outcome {
+    ///     refusal: Some(Refusal::TOO_FEW), acknowledgement: None, own: false, forwarded: &[],
+    /// };
+    /// assert_eq!(octets_sent(&[], &mut [0; ROOM_SIZE]), Err(refused));
+    /// ```
+    #[inline]
+    pub fn accepted(self) -> Result<Outcome<'a>, Outcome<'a>> {
+        match self.refusal {
+            None => Ok(self),
+            Some(_) => Err(self),
+        }
+    }
 }
 
 /// Does one step with the octets received from a side: a routing datagram from the main side where
@@ -146,23 +209,27 @@ pub struct Outcome<'a> {
 /// behind those forwarded stay; after a refusal all do, and the memory too.
 ///
 /// ```
-/// use klumdray::coupler::{step, Medium, Memory, Settings, Side, ROOM_SIZE};
+/// use klumdray::coupler::{step, Acknowledgement, Medium, Memory, Settings, Side, ROOM_SIZE};
 /// use klumdray::Refusal;
 /// let settings = Settings { line: 0xff, codes: [[0, 2, 0, 0], [0; 4]], table: &[] };
 /// let (mut memory, mut room) = (Memory::new(), [0; ROOM_SIZE]);
 ///
 /// let octets = [0xb0, 0xaf, 0xfe, 0x00, 0x00, 0xe1, 0x01, 0x00, 0xfe];
-/// let outcome = step(&settings, Side::Main, Medium::Tp1, &mut memory, &octets, &mut room)?;
-/// assert!(outcome.acknowledged && !outcome.own);
+/// let outcome = step(&settings, Side::Main, Medium::Tp1, &mut memory, &octets, &mut room);
+/// assert_eq!(outcome.refusal, None);
+/// assert_eq!(outcome.acknowledgement, Some(Acknowledgement::Acknowledged));
+/// assert!(!outcome.own);
 /// assert_eq!(outcome.forwarded, [0xb0, 0xaf, 0xfe, 0x00, 0x00, 0xd1, 0x01, 0x00, 0xce]);
 ///
 /// let repeated = [0x90, 0xaf, 0xfe, 0x00, 0x00, 0xe1, 0x01, 0x00, 0xde];
-/// let outcome = step(&settings, Side::Main, Medium::Tp1, &mut memory, &repeated, &mut room)?;
-/// assert!(outcome.acknowledged && outcome.forwarded.is_empty());
+/// let outcome = step(&settings, Side::Main, Medium::Tp1, &mut memory, &repeated, &mut room);
+/// assert_eq!(outcome.acknowledgement, Some(Acknowledgement::Acknowledged));
+/// assert!(outcome.forwarded.is_empty());
 ///
-/// let refused = step(&settings, Side::Sub, Medium::Tp1, &mut memory, &[0xcc], &mut room);
-/// assert_eq!(refused, Err(Refusal::ANOTHER_KIND));
-/// # Ok::<(), Refusal>(())
+/// let outcome = step(&settings, Side::Sub, Medium::Tp1, &mut memory, &[0xcc], &mut room);
+/// assert_eq!(outcome.refusal, Some(Refusal::ANOTHER_KIND));
+/// assert_eq!(outcome.acknowledgement, None);
+/// assert!(!outcome.own && outcome.forwarded.is_empty());
 /// ```
 #[inline]
 pub fn step<'a>(
@@ -172,7 +239,7 @@ pub fn step<'a>(
     memory: &mut Memory,
     octets: &[u8],
     room: &'a mut [u8],
-) -> Result<Outcome<'a>, Refusal> {
+) -> Outcome<'a> {
     let setting = raw::Setting {
         line: settings.line,
         codes: settings.codes.as_flattened(),
@@ -180,10 +247,26 @@ pub fn step<'a>(
         side: side.number(),
         medium: medium.number(),
     };
-    let step = Step::accepted(raw::step(&setting, &mut memory.0, octets, room))?;
-    Ok(Outcome {
-        acknowledged: step.acknowledged(),
-        own: step.own(),
-        forwarded: &room[..step.forwarded()],
-    })
+    let answer = Step(raw::step(&setting, &mut memory.0, octets, room));
+    Outcome::answered(answer, room)
+}
+
+#[cfg(test)]
+mod tests {
+    use super::*;
+
+    /// Every part is there, although no step gives such an answer.
+    #[test]
+    fn a_refusal_hides_no_other_part() {
+        let room = [1, 2, 3];
+        let outcome = Outcome::answered(Step(2 << 32 | 1 << 16 | 0xcc << 8 | 6), &room);
+        let whole = Outcome {
+            refusal: Some(Refusal::CHECK_OCTET),
+            acknowledgement: Some(Acknowledgement::Acknowledged),
+            own: true,
+            forwarded: &[1, 2],
+        };
+        assert_eq!(outcome, whole);
+        assert_eq!(outcome.accepted(), Err(whole));
+    }
 }

@@ -258,8 +258,8 @@ pub fn routing_write(
 }
 
 /// A step's answer: bits 0 to 7 the number, bits 8 to 15 the acknowledgement or 0, bit 16 for the
-/// coupler itself, bits 32 to 63 the octets forwarded. The memory is a block of 530 octets, all
-/// zero at the start.
+/// coupler itself, bits 32 to 63 the octets forwarded, each of them to be read whatever the number
+/// is. The memory is a block of 530 octets, all zero at the start.
 ///
 /// ```
 /// let setting = klumdray::raw::Setting {

@@ -13,9 +13,10 @@ mod wrong_couplers;
 use couplers::{library_step, packed, put_frame, reference_step, Comparison, Lent, Stepper};
 use couplers::{LARGEST_ROOM, MEMORY};
 use generator::{seed, Generator};
-use klumdray::coupler::{Medium, Memory, Settings, Side};
+use klumdray::coupler::{self, Medium, Memory, Settings, Side};
 use klumdray::raw::Setting;
-use reference::coupler::{Coupler, Outcome, TABLE_SIZE};
+use klumdray::Refusal;
+use reference::coupler::{Acknowledgement, Coupler, Outcome, TABLE_SIZE};
 use traffic::Series;
 
 const NUMBERS: [u8; 17] = [0, 1, 2, 3, 4, 5, 6, 7, 8, 9, 10, 11, 12, 13, 14, 15, 18];
@@ -89,9 +90,13 @@ fn library_agrees_with_the_reference() {
 
 #[test]
 fn bindings_agree_with_the_reference() {
+    assert_agrees("bindings", &mut *bindings(), BINDINGS);
+}
+
+/// The bindings with a memory of their own.
+fn bindings() -> Box<Stepper> {
     let mut memory = Memory::new();
-    let mut step = move |lent: &mut Lent<'_>| bindings_step(&mut memory, lent);
-    assert_agrees("bindings", &mut step, BINDINGS);
+    Box::new(move |lent| bindings_step(&mut memory, lent))
 }
 
 /// By the bindings, wherever their types have what is lent, and with their own memory, whose
@@ -110,19 +115,27 @@ fn bindings_step(memory: &mut Memory, lent: &mut Lent<'_>) -> u64 {
     let side = [Side::Main, Side::Sub][usize::from(side)];
     let medium = [Medium::Tp1, Medium::Ip][usize::from(medium)];
     let front = lent.room.as_ptr();
-    let outcome = klumdray::coupler::step(&settings, side, medium, memory, lent.octets, lent.room);
-    let outcome = outcome.map_err(|refusal| refusal.number()).map(|outcome| {
-        assert_eq!(outcome.forwarded.as_ptr(), front);
-        Outcome {
-            acknowledged: outcome.acknowledged,
-            own: outcome.own,
-            forwarded: outcome.forwarded.len(),
-        }
+    let outcome = coupler::step(&settings, side, medium, memory, lent.octets, lent.room);
+    assert_eq!(outcome.forwarded.as_ptr(), front);
+    let answer = packed(Outcome {
+        number: outcome.refusal.map_or(0, Refusal::number),
+        acknowledgement: outcome.acknowledgement.map(acknowledgement),
+        own: outcome.own,
+        forwarded: outcome.forwarded.len(),
     });
     for (place, side) in [Side::Main, Side::Sub].into_iter().enumerate() {
         put_frame(lent.memory, place, memory.remembered(side).unwrap_or(&[]));
     }
-    packed(outcome)
+    answer
+}
+
+/// The reference's acknowledgement with the octet of the bindings'.
+fn acknowledgement(proved: coupler::Acknowledgement) -> Acknowledgement {
+    let acknowledgement = match proved {
+        coupler::Acknowledgement::Acknowledged => Acknowledgement::Acknowledged,
+    };
+    assert_eq!(proved.octet(), acknowledgement.octet());
+    acknowledgement
 }
 
 /// A standard frame of 8 octets, first sending, with count 6.
@@ -151,11 +164,13 @@ fn assert_passes(coupler: &Coupler<'_>, group: bool, destinations: &[u16]) -> u6
             let answer = klumdray::raw::step(&setting, &mut memory, &octets, &mut room);
             let own = !group && destination == u16::from(coupler.line) << 8;
             let passes = coupler.may_pass(side, group, destination);
-            let expected = packed(Ok(Outcome {
-                acknowledged: own || passes,
+            let acknowledged = own || passes;
+            let expected = packed(Outcome {
+                number: 0,
+                acknowledgement: acknowledged.then_some(Acknowledgement::Acknowledged),
                 own,
                 forwarded: if passes { octets.len() } else { 0 },
-            }));
+            });
             let line = coupler.line;
             assert_eq!(
                 answer, expected,

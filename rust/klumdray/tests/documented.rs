@@ -34,7 +34,7 @@ fn every_call_has_an_example() {
         assert!(bare.is_empty(), "{}: no example: {bare:?}", path.display());
         calls += count;
     }
-    assert!(calls >= 31, "only {calls} public functions found");
+    assert!(calls >= 33, "only {calls} public functions found");
 }
 
 /// A number's type in Rust.
@@ -125,6 +125,13 @@ fn the_refusals_are_the_headers() {
     let (table, _) = table.split_once('}').expect("their end");
     let spoken = table.lines().filter_map(|line| line.split('"').nth(1));
     assert_eq!(spoken.collect::<Vec<_>>(), words);
+}
+
+#[test]
+fn the_acknowledgement_is_the_headers() {
+    let octet = coupler::Acknowledgement::Acknowledged.octet();
+    let row = format!("\n *   bits  8 to 15  acknowledgement: {octet:02X}h, or 0 for none\n");
+    assert!(HEADER.contains(&row), "not in the header: {row}");
 }
 
 #[test]

@@ -5,7 +5,7 @@
 mod rows;
 
 use klumdray::coupler::{Medium, Memory, Settings, Side};
-use klumdray::Meaning;
+use klumdray::{Meaning, Refusal};
 use rows::{spaced, Question, Row, Setting, SOURCES};
 use std::collections::BTreeSet;
 
@@ -29,23 +29,29 @@ fn words(meaning: &Meaning, payload: &[u8]) -> String {
     )
 }
 
-fn sent(acknowledged: bool, own: bool, forwarded: &[u8]) -> String {
-    let acknowledged = if acknowledged {
-        "acknowledged"
-    } else {
-        "silent"
+/// All four parts of a step's outcome, whatever its number is.
+fn stepped(number: u8, acknowledgement: Option<u8>, own: bool, forwarded: &[u8]) -> String {
+    let refused = match number {
+        0 => String::new(),
+        _ => format!("refused {number} "),
+    };
+    let acknowledgement = match acknowledgement {
+        None => "silent",
+        Some(0xcc) => "acknowledged",
+        Some(octet) => panic!("no word for {octet:02X}h"),
     };
     let own = if own { "own" } else { "not-own" };
-    match forwarded {
-        [] => format!("{acknowledged} {own} sends nothing"),
-        _ => format!("{acknowledged} {own} sends {}", spaced(forwarded)),
-    }
+    let forwarded = match forwarded {
+        [] => "nothing".to_string(),
+        _ => spaced(forwarded),
+    };
+    format!("{refused}{acknowledgement} {own} sends {forwarded}")
 }
 
 mod by_reference {
     use super::*;
     use reference::cemi::Code;
-    use reference::coupler::{self, Coupler};
+    use reference::coupler::{self, Acknowledgement, Coupler};
     use reference::{cemi, routing, tp1, Format};
 
     fn meaning(meaning: &reference::Meaning) -> Meaning {
@@ -69,7 +75,7 @@ mod by_reference {
         format!("{kind} {}", words(&meaning(&frame.meaning), frame.payload))
     }
 
-    fn step(setting: &Setting, frames: &[Vec<u8>]) -> Result<String, u8> {
+    fn step(setting: &Setting, frames: &[Vec<u8>]) -> String {
         let coupler = Coupler {
             line: setting.line,
             codes: setting.codes,
@@ -77,15 +83,14 @@ mod by_reference {
         };
         let (side, medium) = (setting.side, setting.medium);
         let (mut memory, mut room) = (coupler::Memory::default(), [0; ROOM]);
-        let mut last = Err(0);
-        for octets in frames {
-            let outcome = coupler::step(&coupler, side, medium, &mut memory, octets, &mut room);
-            last = outcome.map(|outcome| {
-                let forwarded = &room[..outcome.forwarded];
-                sent(outcome.acknowledged, outcome.own, forwarded)
-            });
+        let (last, before) = frames.split_last().expect("a frame");
+        for octets in before {
+            coupler::step(&coupler, side, medium, &mut memory, octets, &mut room);
         }
-        last
+        let outcome = coupler::step(&coupler, side, medium, &mut memory, last, &mut room);
+        let acknowledgement = outcome.acknowledgement.map(Acknowledgement::octet);
+        let forwarded = &room[..outcome.forwarded];
+        stepped(outcome.number, acknowledgement, outcome.own, forwarded)
     }
 
     pub fn answer(question: &Question) -> String {
@@ -95,7 +100,7 @@ mod by_reference {
             }
             Question::Cemi(octets) => cemi::read(octets).map(message),
             Question::Routing(octets) => routing::read(octets).map(message),
-            Question::Step(setting, frames) => step(setting, frames),
+            Question::Step(setting, frames) => Ok(step(setting, frames)),
         };
         answer.unwrap_or_else(|number| format!("refused {number}"))
     }
@@ -104,7 +109,8 @@ mod by_reference {
 mod by_bindings {
     use super::*;
     use klumdray::cemi::Code;
-    use klumdray::{cemi, coupler, routing, tp1, Refusal};
+    use klumdray::coupler::Acknowledgement;
+    use klumdray::{cemi, coupler, routing, tp1};
 
     fn message(frame: cemi::Frame<'_>) -> String {
         let kind = match frame.code {
@@ -115,7 +121,7 @@ mod by_bindings {
         format!("{kind} {}", words(&frame.meaning, frame.payload()))
     }
 
-    fn step(setting: &Setting, frames: &[Vec<u8>]) -> Result<String, Refusal> {
+    fn step(setting: &Setting, frames: &[Vec<u8>]) -> String {
         let settings = Settings {
             line: setting.line,
             codes: setting.codes,
@@ -128,8 +134,10 @@ mod by_bindings {
         for octets in before {
             let _ = coupler::step(&settings, side, medium, &mut memory, octets, &mut room);
         }
-        let outcome = coupler::step(&settings, side, medium, &mut memory, last, &mut room)?;
-        Ok(sent(outcome.acknowledged, outcome.own, outcome.forwarded))
+        let outcome = coupler::step(&settings, side, medium, &mut memory, last, &mut room);
+        let number = outcome.refusal.map_or(0, Refusal::number);
+        let acknowledgement = outcome.acknowledgement.map(Acknowledgement::octet);
+        stepped(number, acknowledgement, outcome.own, outcome.forwarded)
     }
 
     pub fn answer(question: &Question) -> String {
@@ -139,9 +147,9 @@ mod by_bindings {
             }
             Question::Cemi(octets) => cemi::read(octets).map(message),
             Question::Routing(octets) => routing::read(octets).map(message),
-            Question::Step(setting, frames) => step(setting, frames),
+            Question::Step(setting, frames) => Ok(step(setting, frames)),
         };
-        answer.unwrap_or_else(|refusal| format!("refused {}", refusal.number()))
+        answer.unwrap_or_else(|refusal: Refusal| format!("refused {}", refusal.number()))
     }
 }
 
@@ -226,8 +234,11 @@ fn refused_rows_say_why() {
 mod idle {
     use super::*;
 
-    fn refuses_all(_: &Question) -> String {
-        "refused 1".to_string()
+    fn refuses_all(question: &Question) -> String {
+        match question {
+            Question::Step(..) => stepped(1, None, false, &[]),
+            _ => "refused 1".to_string(),
+        }
     }
 
     fn one_fixed_frame(question: &Question) -> String {

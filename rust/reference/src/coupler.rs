@@ -255,22 +255,62 @@ impl Memory {
     }
 }
 
+/// What a TP1 frame gets.
+#[derive(Clone, Copy, Debug, PartialEq, Eq)]
+pub enum Acknowledgement {
+    /// "CCh"
+    Acknowledged,
+}
+
+impl Acknowledgement {
+    pub fn octet(self) -> u8 {
+        match self {
+            Acknowledgement::Acknowledged => 0xcc,
+        }
+    }
+}
+
 /// "The step's result: number, acknowledgement or none, for itself or not, octets forwarded (0 if
-/// none)", where the number is 0.
+/// none)."
 #[derive(Clone, Copy, Debug, PartialEq, Eq)]
 pub struct Outcome {
-    /// Whether the frame gets CCh.
-    pub acknowledged: bool,
+    /// The refusal's number, or 0.
+    pub number: u8,
+    pub acknowledgement: Option<Acknowledgement>,
     /// Whether the frame is for the coupler itself.
     pub own: bool,
     /// How many octets at the front of the room are forwarded.
     pub forwarded: usize,
 }
 
+impl Outcome {
+    /// "On a refusal: its number, none, not, 0."
+    pub fn refused(number: u8) -> Outcome {
+        Outcome {
+            number,
+            acknowledgement: None,
+            own: false,
+            forwarded: 0,
+        }
+    }
+}
+
 /// Takes the octets received from one side, and writes what goes out on the other to the front of
-/// the room: "A repetition isn't forwarded." "Order: 15, 18 .., 14 .., 13 (room below 272), then
-/// the reader's."
+/// the room.
 pub fn step(
+    coupler: &Coupler<'_>,
+    side: u8,
+    medium: u8,
+    memory: &mut Memory,
+    octets: &[u8],
+    room: &mut [u8],
+) -> Outcome {
+    accepted(coupler, side, medium, memory, octets, room).unwrap_or_else(Outcome::refused)
+}
+
+/// The step with an accepted frame: "A repetition isn't forwarded." Or its refusal: "Order: 15, 18
+/// .., 14 .., 13 (room below 272), then the reader's."
+fn accepted(
     coupler: &Coupler<'_>,
     side: u8,
     medium: u8,
@@ -296,10 +336,12 @@ pub fn step(
     if let Some(part) = &mut remembered {
         part.remember(octets);
     }
+    // "A TP1 frame gets CCh exactly if it is for the coupler itself or, repetition or not, its
+    // address, codes and count allow forwarding"
+    let gets_cc = received_by == Medium::Tp1 && (own || allowed.is_some());
     Ok(Outcome {
-        // "A TP1 frame gets CCh exactly if it is for the coupler itself or, repetition or not, its
-        // address, codes and count allow forwarding"
-        acknowledged: received_by == Medium::Tp1 && (own || allowed.is_some()),
+        number: 0,
+        acknowledgement: gets_cc.then_some(Acknowledgement::Acknowledged),
         own,
         forwarded,
     })

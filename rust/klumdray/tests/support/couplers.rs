@@ -2,7 +2,7 @@
 //! that is carried on, and the first answer, memory or room in which they differ is reported.
 
 use klumdray::raw::Setting;
-use reference::coupler::{Coupler, Memory, Outcome, Remembered, LARGEST_FRAME};
+use reference::coupler::{Acknowledgement, Coupler, Memory, Outcome, Remembered, LARGEST_FRAME};
 use reference::{Format, Given, Meaning};
 use std::fmt;
 
@@ -31,7 +31,7 @@ pub fn library_step(lent: &mut Lent<'_>) -> u64 {
 /// The reference behind the library's surface, which adds the block and a refusal of its own.
 pub fn reference_step(lent: &mut Lent<'_>) -> u64 {
     let (Some(coupler), MEMORY) = (lent.coupler(), lent.memory.len()) else {
-        return 14;
+        return packed(Outcome::refused(14));
     };
     let mut memory = Memory {
         main: part(lent.memory, 0),
@@ -105,15 +105,13 @@ pub fn put_frame(memory: &mut [u8], side: usize, frame: &[u8]) {
     octets[..frame.len()].copy_from_slice(frame);
 }
 
-/// A step's answer by the bits that include/klumdray.h names.
-pub fn packed(outcome: Result<Outcome, u8>) -> u64 {
-    match outcome {
-        Ok(outcome) => {
-            let acknowledgement = if outcome.acknowledged { 0xcc } else { 0 };
-            acknowledgement << 8 | u64::from(outcome.own) << 16 | (outcome.forwarded as u64) << 32
-        }
-        Err(number) => number.into(),
-    }
+/// A step's answer by the bits that include/klumdray.h names, all four parts whatever the number is.
+pub fn packed(outcome: Outcome) -> u64 {
+    let acknowledgement = outcome.acknowledgement.map_or(0, Acknowledgement::octet);
+    u64::from(outcome.number)
+        | u64::from(acknowledgement) << 8
+        | u64::from(outcome.own) << 16
+        | (outcome.forwarded as u64) << 32
 }
 
 pub fn is_acknowledged(answer: u64) -> bool {

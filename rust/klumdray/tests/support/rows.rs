@@ -43,11 +43,12 @@ impl Row {
         self.remark.starts_with("other format: ")
     }
 
-    /// The number by which it is refused, 0 if it is not.
+    /// The number by which it is refused, 0 if it is not. A step's other parts stand behind it.
     pub fn number(&self) -> usize {
-        match self.text.strip_prefix("refused ") {
-            Some(number) => number.parse().expect("a number behind refused"),
-            None => 0,
+        let mut words = self.text.split(' ');
+        match (words.next(), words.next()) {
+            (Some("refused"), Some(number)) => number.parse().expect("a number behind refused"),
+            _ => 0,
         }
     }
 

@@ -23,47 +23,57 @@ const P7: [u8; 20] = [
 ];
 const P10: [u8; 9] = [0xb0, 0xaf, 0xfe, 0x00, 0x00, 0xe1, 0x01, 0x00, 0xfe];
 
-/// The answer to an accepted frame.
+/// An outcome with the octets forwarded, not how many they are.
 #[derive(Clone, Debug, PartialEq, Eq)]
 struct Answer {
-    acknowledged: bool,
+    number: u8,
+    acknowledgement: Option<u8>,
     own: bool,
     octets: Vec<u8>,
 }
 
-fn answer(acknowledged: bool, own: bool, octets: &[u8]) -> Result<Answer, u8> {
-    let octets = octets.to_vec();
-    Ok(Answer {
-        acknowledged,
+/// The answer to an accepted frame, with CCh or without an acknowledgement.
+fn answer(acknowledged: bool, own: bool, octets: &[u8]) -> Answer {
+    Answer {
+        number: 0,
+        acknowledgement: acknowledged.then_some(0xcc),
         own,
-        octets,
-    })
+        octets: octets.to_vec(),
+    }
+}
+
+/// "On a refusal: its number, none, not, 0."
+fn refused(number: u8) -> Answer {
+    Answer {
+        number,
+        ..answer(false, false, &[])
+    }
 }
 
 /// CCh and these octets.
-fn forwarded(octets: &[u8]) -> Result<Answer, u8> {
+fn forwarded(octets: &[u8]) -> Answer {
     answer(true, false, octets)
 }
 
 /// CCh alone: a repetition.
-fn held() -> Result<Answer, u8> {
+fn held() -> Answer {
     answer(true, false, &[])
 }
 
-fn for_itself() -> Result<Answer, u8> {
+fn for_itself() -> Answer {
     answer(true, true, &[])
 }
 
-fn ignored() -> Result<Answer, u8> {
+fn ignored() -> Answer {
     answer(false, false, &[])
 }
 
 /// These octets, without an acknowledgement.
-fn forwarded_from_ip(octets: &[u8]) -> Result<Answer, u8> {
+fn forwarded_from_ip(octets: &[u8]) -> Answer {
     answer(false, false, octets)
 }
 
-fn for_itself_from_ip() -> Result<Answer, u8> {
+fn for_itself_from_ip() -> Answer {
     answer(false, true, &[])
 }
 
@@ -79,14 +89,14 @@ impl Fitted<'_> {
     /// One step in a room of more than enough octets. Whatever the answer is, it must keep the
     /// sentences about memory and room.
     #[track_caller]
-    fn take(&mut self, side: u8, octets: &[u8]) -> Result<Answer, u8> {
+    fn take(&mut self, side: u8, octets: &[u8]) -> Answer {
         let mut room = [UNTOUCHED; 300];
         let mut expected = self.memory.clone();
         let (coupler, medium, memory) = (&self.coupler, self.medium, &mut self.memory);
         let outcome = step(coupler, side, medium, memory, octets, &mut room);
-        let size = outcome.map_or(0, |it| it.forwarded);
-        assert!(room[size..].iter().all(|&octet| octet == UNTOUCHED));
-        if outcome.is_ok() && (side, medium) != (MAIN, IP) {
+        let (forwarded, behind) = room.split_at(outcome.forwarded);
+        assert!(behind.iter().all(|&octet| octet == UNTOUCHED));
+        if outcome.number == 0 && (side, medium) != (MAIN, IP) {
             let part = match side {
                 MAIN => &mut expected.main,
                 _ => &mut expected.sub,
@@ -95,8 +105,18 @@ impl Fitted<'_> {
             part.octets[..octets.len()].copy_from_slice(octets);
         }
         assert!(self.memory == expected, "memory");
-        let it = outcome?;
-        answer(it.acknowledged, it.own, &room[..size])
+        Answer {
+            number: outcome.number,
+            acknowledgement: outcome.acknowledgement.map(Acknowledgement::octet),
+            own: outcome.own,
+            octets: forwarded.to_vec(),
+        }
+    }
+
+    /// One step that must not be refused.
+    #[track_caller]
+    fn accept(&mut self, side: u8, octets: &[u8]) {
+        assert_eq!(self.take(side, octets).number, 0);
     }
 }
 
@@ -373,7 +393,7 @@ fn allowed_codes() {
             // A frame from the other side, which that code says nothing about.
             let other_side = 1 - place as u8 / 4;
             let answer = coupler.take(other_side, &frame(&to_device(0x1234, 6)));
-            let expected = if is_allowed { ignored() } else { Err(15) };
+            let expected = if is_allowed { ignored() } else { refused(15) };
             assert_eq!(answer, expected, "code {code} in place {place}");
         }
     }
@@ -384,7 +404,7 @@ fn every_line_but_00_has_a_coupler() {
     for line in 0..=255 {
         let sent = frame(&to_group(0x1234, 6));
         let expected = match line {
-            0x00 => Err(15),
+            0x00 => refused(15),
             _ => forwarded(&frame(&to_group(0x1234, 5))),
         };
         assert_eq!(open(line, TP1).take(MAIN, &sent), expected, "{line:x}");
@@ -491,16 +511,16 @@ fn table_lengths() {
                 codes[place / 4][place % 4] = code;
                 let is_group_code = place % 4 >= 2;
                 let expected = match length {
-                    _ if code == 1 && place % 4 == 1 => Err(15),
-                    8192 => Ok(()),
-                    0 if !(is_group_code && code == 1) => Ok(()),
-                    _ => Err(18),
+                    _ if code == 1 && place % 4 == 1 => 15,
+                    8192 => 0,
+                    0 if !(is_group_code && code == 1) => 0,
+                    _ => 18,
                 };
                 let mut coupler = fitted(0x11, codes, TP1);
                 coupler.coupler.table = &octets;
                 for side in [MAIN, SUB] {
-                    let answer = coupler.take(side, &P1).map(|_| ());
-                    assert_eq!(answer, expected, "{length} {place} {code}");
+                    let number = coupler.take(side, &P1).number;
+                    assert_eq!(number, expected, "{length} {place} {code}");
                 }
             }
         }
@@ -728,11 +748,12 @@ fn largest_frames_in_the_least_room() {
         let mut room = [UNTOUCHED; 272];
         let outcome = step(&coupler, SUB, medium, &mut memory, &octets, &mut room);
         let expected = Outcome {
-            acknowledged: true,
+            number: 0,
+            acknowledgement: Some(Acknowledgement::Acknowledged),
             own: false,
             forwarded: size,
         };
-        assert_eq!(outcome, Ok(expected));
+        assert_eq!(outcome, expected);
         assert!(room[size..].iter().all(|&octet| octet == UNTOUCHED));
         assert_eq!(memory.sub.frame(), Some(&octets[..]));
     }
@@ -828,7 +849,7 @@ fn another_source_destination_or_at_is_no_repetition() {
             let other = Meaning { format, ..other };
             let onward = forwarded(&frame(&counted(other, 5)));
             let mut coupler = open(0x47, TP1);
-            coupler.take(MAIN, &frame(&first)).unwrap();
+            coupler.accept(MAIN, &frame(&first));
             assert_eq!(coupler.take(MAIN, &frame(&repeated(other))), onward);
             assert_eq!(coupler.take(MAIN, &frame(&repeated(other))), held());
         }
@@ -858,7 +879,7 @@ fn repetition_of_another_format_priority_count_or_payload() {
         (first, octets),
     ] {
         let mut coupler = open(0x47, TP1);
-        coupler.take(SUB, &frame(&before)).unwrap();
+        coupler.accept(SUB, &frame(&before));
         assert_eq!(coupler.take(SUB, &again), held());
     }
 }
@@ -888,15 +909,15 @@ fn every_accepted_frame_is_remembered() {
 fn only_the_last_frame_is_remembered() {
     let (one, two) = (to_group(0x1234, 6), to_group(0x4321, 6));
     let mut coupler = open(0x47, TP1);
-    coupler.take(MAIN, &frame(&one)).unwrap();
-    coupler.take(MAIN, &frame(&two)).unwrap();
+    coupler.accept(MAIN, &frame(&one));
+    coupler.accept(MAIN, &frame(&two));
     let onward = forwarded(&frame(&counted(one, 5)));
     assert_eq!(coupler.take(MAIN, &frame(&repeated(one))), onward);
     let onward = forwarded(&frame(&counted(two, 5)));
     assert_eq!(coupler.take(MAIN, &frame(&repeated(two))), onward);
 
     // A frame for the coupler itself comes between as any other does.
-    coupler.take(MAIN, &frame(&to_device(0x4700, 6))).unwrap();
+    coupler.accept(MAIN, &frame(&to_device(0x4700, 6)));
     assert_eq!(coupler.take(MAIN, &frame(&repeated(two))), onward);
 }
 
@@ -905,7 +926,7 @@ fn repetition_is_the_remembered_one() {
     let sent = to_group(0x1234, 6);
     let mut coupler = open(0x47, TP1);
     let first = frame(&sent);
-    coupler.take(SUB, &first).unwrap();
+    coupler.accept(SUB, &first);
     assert_eq!(coupler.memory.sub.frame(), Some(&first[..]));
     let again = frame(&repeated(counted(sent, 2)));
     assert_eq!(coupler.take(SUB, &again), held());
@@ -917,7 +938,7 @@ fn repetition_is_the_remembered_one() {
 fn repetition_that_address_codes_or_count_stop_is_not_acknowledged() {
     let sent = to_group(0x1234, 6);
     let mut coupler = open(0x47, TP1);
-    coupler.take(MAIN, &frame(&sent)).unwrap();
+    coupler.accept(MAIN, &frame(&sent));
     let count_0 = frame(&repeated(counted(sent, 0)));
     assert_eq!(coupler.take(MAIN, &count_0), ignored());
     coupler.coupler.codes[0] = [2, 2, 0, 2];
@@ -948,7 +969,7 @@ fn each_side_remembers_for_itself() {
     assert_eq!(coupler.take(SUB, &frame(&repeated(sent))), onward);
     assert_eq!(coupler.take(MAIN, &frame(&repeated(sent))), held());
     let other = to_group(0x4321, 6);
-    coupler.take(SUB, &frame(&other)).unwrap();
+    coupler.accept(SUB, &frame(&other));
     assert_eq!(coupler.take(MAIN, &frame(&repeated(sent))), held());
 }
 
@@ -976,8 +997,8 @@ fn nothing_from_ip_is_a_repetition() {
 fn main_memory_is_untouched_by_ip() {
     let (one, two) = (to_group(0x1234, 6), to_group(0x4321, 6));
     let mut coupler = open(0x47, TP1);
-    coupler.take(MAIN, &frame(&one)).unwrap();
-    coupler.take(SUB, &frame(&two)).unwrap();
+    coupler.accept(MAIN, &frame(&one));
+    coupler.accept(SUB, &frame(&two));
     coupler.medium = IP;
     for sent in [one, two] {
         let onward = forwarded_from_ip(&frame(&counted(sent, 5)));
@@ -1007,8 +1028,8 @@ fn octets_behind_the_remembered_frame_stay() {
     let sent = to_group(0x1234, 6);
     let (long, short) = (frame_with(&sent, &[0x77; 16]), frame(&sent));
     let mut coupler = open(0x47, TP1);
-    coupler.take(SUB, &long).unwrap();
-    coupler.take(SUB, &short).unwrap();
+    coupler.accept(SUB, &long);
+    coupler.accept(SUB, &short);
     let Remembered { size, octets } = &coupler.memory.sub;
     assert_eq!(*size, short.len());
     let (front, behind) = octets.split_at(short.len());
@@ -1023,7 +1044,7 @@ fn size_0_or_above_the_largest_is_no_frame() {
     let sent = to_group(0x1234, 6);
     let octets = frame(&sent);
     let mut coupler = open(0x47, TP1);
-    coupler.take(MAIN, &octets).unwrap();
+    coupler.accept(MAIN, &octets);
     let onward = forwarded(&frame(&counted(sent, 5)));
     for size in [0, 264, 265, 65535, usize::MAX] {
         let mut coupler = coupler.clone();
@@ -1039,18 +1060,22 @@ fn size_0_or_above_the_largest_is_no_frame() {
 
 // Refusals.
 
-/// The refusal by a room of this size; neither room nor memory may change.
+/// The number of the outcome in a room of this size. With a refusal neither room nor memory may
+/// change, nor may the outcome say anything else.
 #[track_caller]
-fn refusal(at: &Fitted<'_>, side: u8, room: usize, octets: &[u8]) -> u8 {
+fn number(at: &Fitted<'_>, side: u8, room: usize, octets: &[u8]) -> u8 {
     let mut lent = [UNTOUCHED; 300];
     let mut memory = at.memory.clone();
     let room = &mut lent[..room];
     let outcome = step(&at.coupler, side, at.medium, &mut memory, octets, room);
-    if outcome.is_err() {
+    if outcome.number != 0 {
+        assert_eq!(outcome.acknowledgement, None);
+        assert!(!outcome.own);
+        assert_eq!(outcome.forwarded, 0);
         assert_eq!(lent, [UNTOUCHED; 300]);
         assert!(memory == at.memory, "memory");
     }
-    outcome.err().unwrap_or(0)
+    outcome.number
 }
 
 #[test]
@@ -1058,34 +1083,34 @@ fn order_of_refusals() {
     let mut wrong = fitted(0x00, [[2, 1, 1, 2]; 2], 2);
     let sent = to_group(0x1234, 6);
     wrong.memory.main.remember(&frame(&sent));
-    assert_eq!(refusal(&wrong, 2, 0, &[]), 15);
+    assert_eq!(number(&wrong, 2, 0, &[]), 15);
     wrong.coupler.line = 0x47;
-    assert_eq!(refusal(&wrong, 2, 0, &[]), 15);
+    assert_eq!(number(&wrong, 2, 0, &[]), 15);
     wrong.coupler.codes[0][1] = 2;
-    assert_eq!(refusal(&wrong, 2, 0, &[]), 15);
+    assert_eq!(number(&wrong, 2, 0, &[]), 15);
     wrong.coupler.codes[1][1] = 2;
-    assert_eq!(refusal(&wrong, 2, 0, &[]), 18);
+    assert_eq!(number(&wrong, 2, 0, &[]), 18);
     wrong.coupler.codes[0][2] = 2;
-    assert_eq!(refusal(&wrong, 2, 0, &[]), 18);
+    assert_eq!(number(&wrong, 2, 0, &[]), 18);
     wrong.coupler.codes[1][2] = 2;
-    assert_eq!(refusal(&wrong, 2, 0, &[]), 14);
-    assert_eq!(refusal(&wrong, MAIN, 0, &[]), 14);
+    assert_eq!(number(&wrong, 2, 0, &[]), 14);
+    assert_eq!(number(&wrong, MAIN, 0, &[]), 14);
     wrong.medium = TP1;
-    assert_eq!(refusal(&wrong, 2, 0, &[]), 14);
-    assert_eq!(refusal(&wrong, MAIN, 0, &[]), 13);
-    assert_eq!(refusal(&wrong, MAIN, 271, &[]), 13);
-    assert_eq!(refusal(&wrong, MAIN, 272, &[]), 1);
-    assert_eq!(refusal(&wrong, MAIN, 272, &P1), 0);
+    assert_eq!(number(&wrong, 2, 0, &[]), 14);
+    assert_eq!(number(&wrong, MAIN, 0, &[]), 13);
+    assert_eq!(number(&wrong, MAIN, 271, &[]), 13);
+    assert_eq!(number(&wrong, MAIN, 272, &[]), 1);
+    assert_eq!(number(&wrong, MAIN, 272, &P1), 0);
 }
 
 #[test]
 fn sides_and_media_outside_their_ranges() {
-    for number in 0..=255 {
+    for given in 0..=255 {
         for other in [0, 1] {
-            let sides = refusal(&open(0x47, other), number, 272, &[]);
-            let media = refusal(&open(0x47, number), other, 272, &[]);
-            let expected = if number > 1 { 14 } else { 1 };
-            assert_eq!((sides, media), (expected, expected), "{number}");
+            let sides = number(&open(0x47, other), given, 272, &[]);
+            let media = number(&open(0x47, given), other, 272, &[]);
+            let expected = if given > 1 { 14 } else { 1 };
+            assert_eq!((sides, media), (expected, expected), "{given}");
         }
     }
 }
@@ -1097,11 +1122,11 @@ fn room_below_272() {
     for fitted in [open(0x47, TP1), closed(0x47, TP1), open(0x47, IP)] {
         for octets in [&own[..], &P1, &[]] {
             for room in [0, 1, 12, 263, 270, 271] {
-                assert_eq!(refusal(&fitted, SUB, room, octets), 13);
+                assert_eq!(number(&fitted, SUB, room, octets), 13);
             }
             let expected = if octets.is_empty() { 1 } else { 0 };
-            assert_eq!(refusal(&fitted, SUB, 272, octets), expected);
-            assert_eq!(refusal(&fitted, SUB, 300, octets), expected);
+            assert_eq!(number(&fitted, SUB, 272, octets), expected);
+            assert_eq!(number(&fitted, SUB, 300, octets), expected);
         }
     }
 }
@@ -1123,9 +1148,9 @@ fn refusals_of_the_tp1_reader() {
         (&P1, 0),
     ];
     for (octets, expected) in telegrams {
-        assert_eq!(refusal(&open(0x47, TP1), MAIN, 272, octets), expected);
-        assert_eq!(refusal(&closed(0x47, TP1), SUB, 272, octets), expected);
-        assert_eq!(refusal(&open(0x47, IP), SUB, 272, octets), expected);
+        assert_eq!(number(&open(0x47, TP1), MAIN, 272, octets), expected);
+        assert_eq!(number(&closed(0x47, TP1), SUB, 272, octets), expected);
+        assert_eq!(number(&open(0x47, IP), SUB, 272, octets), expected);
     }
 }
 
@@ -1151,8 +1176,27 @@ fn refusals_of_the_routing_reader() {
         (&P7, 0),
     ];
     for (octets, expected) in telegrams {
-        assert_eq!(refusal(&open(0x47, IP), MAIN, 272, octets), expected);
-        assert_eq!(refusal(&closed(0x47, IP), MAIN, 272, octets), expected);
+        assert_eq!(number(&open(0x47, IP), MAIN, 272, octets), expected);
+        assert_eq!(number(&closed(0x47, IP), MAIN, 272, octets), expected);
+    }
+}
+
+/// "On a refusal: its number, none, not, 0", also where the same frame with the right check octet is
+/// forwarded or for the coupler itself, acknowledged or not.
+#[test]
+fn damaged_frames_are_refused_and_nothing_else() {
+    for (sent, whole) in [
+        (to_group(0x1234, 7), forwarded(&frame(&to_group(0x1234, 7)))),
+        (to_device(0x4700, 6), for_itself()),
+        (to_group(0x1234, 0), ignored()),
+    ] {
+        for side in [MAIN, SUB] {
+            let mut octets = frame(&sent);
+            assert_eq!(open(0x47, TP1).take(side, &octets), whole);
+            let last = octets.len() - 1;
+            octets[last] ^= 0x01;
+            assert_eq!(open(0x47, TP1).take(side, &octets), refused(6));
+        }
     }
 }
 
@@ -1165,16 +1209,16 @@ fn repetition_across_refused_calls() {
     let mut broken = other.clone();
     broken[7] ^= 1;
     let mut coupler = open(0x47, TP1);
-    coupler.take(MAIN, &first).unwrap();
-    assert_eq!(coupler.take(MAIN, &broken), Err(6));
-    assert_eq!(coupler.take(MAIN, &[0xcc]), Err(2));
-    assert_eq!(coupler.take(2, &other), Err(14));
+    coupler.accept(MAIN, &first);
+    assert_eq!(coupler.take(MAIN, &broken), refused(6));
+    assert_eq!(coupler.take(MAIN, &[0xcc]), refused(2));
+    assert_eq!(coupler.take(2, &other), refused(14));
     coupler.coupler.line = 0x00;
-    assert_eq!(coupler.take(MAIN, &other), Err(15));
+    assert_eq!(coupler.take(MAIN, &other), refused(15));
     coupler.coupler.line = 0x47;
     coupler.coupler.table = &[0xff];
-    assert_eq!(coupler.take(MAIN, &other), Err(18));
+    assert_eq!(coupler.take(MAIN, &other), refused(18));
     coupler.coupler.table = &[];
-    assert_eq!(refusal(&coupler, MAIN, 271, &other), 13);
+    assert_eq!(number(&coupler, MAIN, 271, &other), 13);
     assert_eq!(coupler.take(MAIN, &again), held());
 }
