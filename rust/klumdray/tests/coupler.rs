@@ -238,8 +238,12 @@ fn individual_addresses_agree_on_all_lines() {
 }
 
 fn assert_noticed(references: Vec<(&str, Box<Stepper>)>) {
+    assert_noticed_by(&mut library_step, LIBRARY, references);
+}
+
+fn assert_noticed_by(proved: &mut Stepper, extent: Extent, references: Vec<(&str, Box<Stepper>)>) {
     for (name, mut reference) in references {
-        match compare(&mut library_step, &mut *reference, seed(), LIBRARY) {
+        match compare(proved, &mut *reference, seed(), extent) {
             Ok(_) => panic!("not noticed: {name}"),
             Err(difference) => println!("{name}: {difference:.160}"),
         }
@@ -269,4 +273,10 @@ fn wrong_remembering_is_noticed() {
 #[test]
 fn wrong_refusing_is_noticed() {
     assert_noticed(wrong_couplers::refusing());
+}
+
+#[test]
+fn wrong_outcomes_of_refused_steps_are_noticed() {
+    assert_noticed(wrong_couplers::refused());
+    assert_noticed_by(&mut *bindings(), BINDINGS, wrong_couplers::refused());
 }

@@ -8,8 +8,10 @@ use reference::coupler::{lowered, Side, LARGEST_FRAME, ROOM_SIZE, TABLE_SIZE};
 use reference::{Format, Meaning};
 
 const ACKNOWLEDGEMENT: u64 = 0xcc << 8;
+const OWN: u64 = 1 << 16;
+const FORWARDED: u64 = 0xffff_ffff << 32;
 /// All of an answer but the octets forwarded.
-const DECISION: u64 = 0xffff_ffff;
+const DECISION: u64 = !FORWARDED;
 
 /// Forwards the frame heard, with its meaning changed, whatever the answer was.
 fn forward(lent: &mut Lent<'_>, answer: u64, change: impl Fn(Meaning) -> Meaning) -> u64 {
@@ -550,6 +552,55 @@ fn takes_broadcast_code_1(lent: &mut Lent<'_>) -> u64 {
     with_codes(lent, &codes)
 }
 
+/// What the reference says of a frame refused by 6 where the check octet is right.
+fn mended(lent: &Lent<'_>) -> u64 {
+    let mut octets = lent.octets.to_vec();
+    let (check, before) = octets.split_last_mut().expect("a check octet");
+    *check = reference::check_octet(before);
+    reference_step(&mut Lent {
+        setting: lent.setting,
+        memory: &mut lent.memory.to_vec(),
+        octets: &octets,
+        room: &mut lent.room.to_vec(),
+    })
+}
+
+fn acknowledges_refused(lent: &mut Lent<'_>) -> u64 {
+    match reference_step(lent) {
+        6 => 6 | mended(lent) & ACKNOWLEDGEMENT,
+        answer => answer,
+    }
+}
+
+fn own_though_refused(lent: &mut Lent<'_>) -> u64 {
+    match reference_step(lent) {
+        6 => 6 | mended(lent) & OWN,
+        answer => answer,
+    }
+}
+
+fn claims_refused(lent: &mut Lent<'_>) -> u64 {
+    match reference_step(lent) {
+        6 => 6 | mended(lent) & FORWARDED,
+        answer => answer,
+    }
+}
+
+fn claims_what_needs_room(lent: &mut Lent<'_>) -> u64 {
+    match reference_step(lent) {
+        13 => {
+            let answer = reference_step(&mut Lent {
+                setting: lent.setting,
+                memory: &mut lent.memory.to_vec(),
+                octets: lent.octets,
+                room: &mut [0; ROOM_SIZE],
+            });
+            13 | answer & FORWARDED
+        }
+        answer => answer,
+    }
+}
+
 pub fn forwarding() -> Vec<(&'static str, Box<Stepper>)> {
     vec![
         ("check octet copied", Box::new(copies_check_octet)),
@@ -642,5 +693,21 @@ pub fn refusing() -> Vec<(&'static str, Box<Stepper>)> {
         ("table asked by one row", Box::new(asks_one_row)),
         ("idle table of any size", Box::new(takes_any_idle_table)),
         ("broadcast code 1 taken", Box::new(takes_broadcast_code_1)),
+    ]
+}
+
+/// These say the right number of a refused step, and more than that.
+pub fn refused() -> Vec<(&'static str, Box<Stepper>)> {
+    vec![
+        (
+            "acknowledges a refused frame",
+            Box::new(acknowledges_refused),
+        ),
+        ("own though refused", Box::new(own_though_refused)),
+        ("claims octets of a refused frame", Box::new(claims_refused)),
+        (
+            "claims octets without room",
+            Box::new(claims_what_needs_room),
+        ),
     ]
 }
