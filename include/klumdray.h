@@ -78,7 +78,8 @@
  * A filter table is 8,192 octets. The bit of group g is bit g mod 8 (bit 0 is worth 1) of octet
  * g div 8. Broadcast is never looked up in it.
  *
- * A step's answer. With a refusal every bit above 7 is 0.
+ * A step's answer has four parts and says all four whatever the number is: each is read from its
+ * own bits, of a refused step too. On a refusal they are: its number, none, not, 0.
  *
  *   bits  0 to  7  the number
  *   bits  8 to 15  acknowledgement: CCh, or 0 for none
@@ -243,6 +244,9 @@ enum {
  * Refusals, the first that applies: codes not 8 or memory not 530 octets long (14), line or a code
  * (15), the table's length (18), side or medium (14), room (13), then as klumdray_tp1_read or, from
  * IP, klumdray_routing_read. A refused step leaves room and memory as they were.
+ * The answer is read by klumdray_number, klumdray_acknowledgement, klumdray_own and
+ * klumdray_forwarded, each of them whatever the number is: a caller sends on either side what the
+ * answer says, without asking first whether it is a refusal.
  */
 uint64_t klumdray_step(uint8_t line, const uint8_t *codes, size_t codes_length,
                        const uint8_t *table, size_t table_length, uint8_t side, uint8_t medium,
@@ -434,19 +438,19 @@ static inline size_t klumdray_routing_information_length(uint64_t answer, size_t
     return n - klumdray_payload_length(answer) - 15u;
 }
 
-/* A step's answer: CCh, or 0 for no acknowledgement. */
+/* A step's answer, whatever its number is: the acknowledgement, CCh, or 0 for none. */
 static inline uint8_t klumdray_acknowledgement(uint64_t answer)
 {
     return (uint8_t)(answer >> 8 & 0xFFu);
 }
 
-/* A step's answer: 1 if the frame is for the coupler itself, else 0. */
+/* A step's answer, whatever its number is: 1 if the frame is for the coupler itself, else 0. */
 static inline uint8_t klumdray_own(uint64_t answer)
 {
     return (uint8_t)(answer >> 16 & 1u);
 }
 
-/* A step's answer: the octets forwarded, 0 if none. */
+/* A step's answer, whatever its number is: the octets forwarded, 0 if none. */
 static inline size_t klumdray_forwarded(uint64_t answer)
 {
     return (size_t)(answer >> 32);

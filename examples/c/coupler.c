@@ -1,7 +1,7 @@
 /*
- * A coupler in C. Reads a TP1 frame, runs one step of the coupler of line 4.7 with it, then one
- * with the same frame marked repeated, and prints what happened. Without octets it takes the
- * telegram of a leak meter on line 4.7 that reports 21 litres to group 2/2/52.
+ * A coupler in C. Reads a TP1 frame, runs one step of the coupler of line 4.7 with it, then, if it
+ * is not refused, one with the same frame marked repeated, and prints what happened. Without octets
+ * it takes the telegram of a leak meter on line 4.7 that reports 21 litres to group 2/2/52.
  *
  * To build, from the root of the repository, after `rt staticlib klumdray`:
  *
@@ -59,12 +59,10 @@ static void print_octets(const char *name, const uint8_t *octets, size_t n)
 }
 
 /* Every answer carries its number in the same place: 0, or the refusal's. */
-static int is_refused(uint64_t answer)
+static void print_number(uint64_t answer)
 {
-    unsigned number = klumdray_number(answer);
-    if (number != 0)
-        printf("refused %u: %s\n", number, klumdray_words(klumdray_number(answer)));
-    return number != 0;
+    uint8_t number = klumdray_number(answer);
+    printf("  number: %u, %s\n", (unsigned)number, klumdray_words(number));
 }
 
 static void print_meaning(uint64_t answer, const uint8_t *octets)
@@ -85,23 +83,23 @@ static void print_meaning(uint64_t answer, const uint8_t *octets)
                  klumdray_payload_length(answer));
 }
 
-/* A frame from the coupler's own line, its sub side; the main side is TP1 too. */
-static int step(const char *name, const uint8_t *octets, size_t n)
+/* A frame from the coupler's own line, its sub side; the main side is TP1 too. What the answer says
+ * to send is sent, here printed, whatever its number is. Returns the number. */
+static uint8_t step(const char *name, const uint8_t *octets, size_t n)
 {
     uint8_t room[KLUMDRAY_ROOM_SIZE];
     uint64_t answer = klumdray_step(LINE, codes, sizeof codes, table, sizeof table, KLUMDRAY_SUB,
                                     KLUMDRAY_TP1, memory, sizeof memory, octets, n, room,
                                     sizeof room);
     print_octets(name, octets, n);
-    if (is_refused(answer))
-        return 1;
+    print_number(answer);
     if (klumdray_acknowledgement(answer) != 0)
         printf("  acknowledgement: %02Xh\n", klumdray_acknowledgement(answer));
     else
         printf("  acknowledgement: none\n");
     printf("  for itself: %s\n", klumdray_own(answer) ? "yes" : "no");
     print_octets("  forwarded:", room, klumdray_forwarded(answer));
-    return 0;
+    return klumdray_number(answer);
 }
 
 /* Writes the frame that was read once more, with the repeat flag saying repeated: the writer puts
@@ -134,11 +132,11 @@ int main(int argc, char **argv)
 
     print_octets("frame:", octets, n);
     answer = klumdray_tp1_read(octets, n);
-    if (is_refused(answer))
-        return 1;
-    print_meaning(answer, octets);
-    if (step("coupler 4.7 receives from its own line:", octets, n))
+    print_number(answer);
+    if (klumdray_number(answer) == 0)
+        print_meaning(answer, octets);
+    if (step("coupler 4.7 receives from its own line:", octets, n) != 0)
         return 1;
     n = write_repeated(answer, octets, repeated, sizeof repeated);
-    return step("and once more, marked repeated:", repeated, n);
+    return step("and once more, marked repeated:", repeated, n) != 0;
 }

@@ -234,6 +234,16 @@ static void helpers(void)
     check("1 is the octet 11h", klumdray_message_code((uint64_t)KLUMDRAY_REQUEST << 56) == 0x11);
 }
 
+/* No step gives such an answer, but each part is read from it as if the others were not there. */
+static void parts_with_a_refusal(void)
+{
+    uint64_t answer = (uint64_t)270 << 32 | 1u << 16 | 0xCCu << 8 | 6u;
+    check("a number beside other parts is read", klumdray_number(answer) == 6);
+    check("an acknowledgement beside a number is read", klumdray_acknowledgement(answer) == 0xCC);
+    check("for itself beside a number is read", klumdray_own(answer) == 1);
+    check("octets forwarded beside a number are read", klumdray_forwarded(answer) == 270);
+}
+
 /* A coupler's line, codes, memory and room. */
 struct coupler {
     uint8_t line;
@@ -265,6 +275,13 @@ static int is_forwarded(const struct coupler *c, uint64_t answer, const uint8_t 
 {
     return klumdray_forwarded(answer) == n && memcmp(c->room, octets, n) == 0 &&
            untouched(c->room + n, sizeof c->room - n);
+}
+
+/* "On a refusal: its number, none, not, 0." Each part by its helper, and no other bit. */
+static int is_refused(uint64_t answer, uint8_t number)
+{
+    return klumdray_number(answer) == number && klumdray_acknowledgement(answer) == 0 &&
+           klumdray_own(answer) == 0 && klumdray_forwarded(answer) == 0 && answer == number;
 }
 
 static int is_blank(const uint8_t *memory)
@@ -366,7 +383,7 @@ static void steps_with_a_table(void)
     uint64_t answer;
     c.codes[2] = 1;
     check("no filter table where code 1 asks for one is 18",
-          step(&c, KLUMDRAY_MAIN, KLUMDRAY_TP1, P1, sizeof P1) == 18);
+          is_refused(step(&c, KLUMDRAY_MAIN, KLUMDRAY_TP1, P1, sizeof P1), 18));
     table[0x1234 / 8] = 1u << 0x1234 % 8;
     answer = klumdray_step(c.line, c.codes, 8, table, sizeof table, KLUMDRAY_MAIN, KLUMDRAY_TP1,
                            c.memory, sizeof c.memory, P1, sizeof P1, c.room, sizeof c.room);
@@ -377,35 +394,69 @@ static void steps_with_a_table(void)
     check("another group is not", klumdray_number(answer) == 0 && klumdray_forwarded(answer) == 0);
 }
 
+static void refused_blocks_and_rooms(void)
+{
+    struct coupler c = coupler(0x11, 2);
+    uint8_t *codes = c.codes, *memory = c.memory, *room = c.room;
+    uint64_t answer = klumdray_step(0x11, codes, 8, NULL, 0, 0, 0, NULL, 0, P1, 12, room, 272);
+    check("a null memory is 14", is_refused(answer, 14));
+    answer = klumdray_step(0x11, NULL, 0, NULL, 0, 0, 0, memory, 530, P1, 12, room, 272);
+    check("null codes are 14", is_refused(answer, 14));
+    answer = klumdray_step(0x00, codes, 8, NULL, 0, 2, 2, NULL, 0, NULL, 0, NULL, 0);
+    check("a null memory is 14 before 15 and 13", is_refused(answer, 14));
+    answer = klumdray_step(0x11, codes, 8, NULL, 0, 0, 0, memory, 529, P1, 12, room, 272);
+    check("a memory of 529 octets is 14", is_refused(answer, 14));
+    answer = klumdray_step(0x11, codes, 7, NULL, 0, 0, 0, memory, 530, P1, 12, room, 272);
+    check("7 codes are 14", is_refused(answer, 14));
+    answer = klumdray_step(0x11, codes, 8, NULL, 0, 0, 0, memory, 530, P1, 12, NULL, 0);
+    check("a null room is 13", is_refused(answer, 13));
+    answer = klumdray_step(0x11, codes, 8, NULL, 0, 0, 0, memory, 530, P1, 12, room, 271);
+    check("a room of 271 octets is 13", is_refused(answer, 13));
+    check("their room is untouched", untouched(room, sizeof c.room));
+    check("their memory is untouched", is_blank(memory));
+}
+
 static void refused_steps(void)
 {
     struct coupler c = coupler(0x11, 2);
     struct coupler closed = coupler(0x00, 3);
-    uint8_t *memory = c.memory, *room = c.room;
-    check("a null memory is 14",
-          klumdray_step(0x11, c.codes, 8, NULL, 0, 0, 0, NULL, 0, P1, 12, room, 272) == 14);
-    check("null codes are 14",
-          klumdray_step(0x11, NULL, 0, NULL, 0, 0, 0, memory, 530, P1, 12, room, 272) == 14);
-    check("a null memory is 14 before 15 and 13",
-          klumdray_step(0x00, c.codes, 8, NULL, 0, 2, 2, NULL, 0, NULL, 0, NULL, 0) == 14);
-    check("a memory of 529 octets is 14",
-          klumdray_step(0x11, c.codes, 8, NULL, 0, 0, 0, memory, 529, P1, 12, room, 272) == 14);
-    check("7 codes are 14",
-          klumdray_step(0x11, c.codes, 7, NULL, 0, 0, 0, memory, 530, P1, 12, room, 272) == 14);
-    check("a null room is 13",
-          klumdray_step(0x11, c.codes, 8, NULL, 0, 0, 0, memory, 530, P1, 12, NULL, 0) == 13);
-    check("a room of 271 octets is 13",
-          klumdray_step(0x11, c.codes, 8, NULL, 0, 0, 0, memory, 530, P1, 12, room, 271) == 13);
-    check("line 00h is 15", step(&closed, 2, 2, NULL, 0) == 15);
-    check("side 2 is 14", step(&c, 2, KLUMDRAY_TP1, P1, sizeof P1) == 14);
-    check("medium 2 is 14", step(&c, KLUMDRAY_SUB, 2, P1, sizeof P1) == 14);
-    check("no octets are 1", step(&c, KLUMDRAY_SUB, KLUMDRAY_TP1, NULL, 0) == 1);
+    check("line 00h is 15", is_refused(step(&closed, 2, 2, NULL, 0), 15));
+    check("side 2 is 14", is_refused(step(&c, 2, KLUMDRAY_TP1, P1, sizeof P1), 14));
+    check("medium 2 is 14", is_refused(step(&c, KLUMDRAY_SUB, 2, P1, sizeof P1), 14));
+    check("no octets are 1", is_refused(step(&c, KLUMDRAY_SUB, KLUMDRAY_TP1, NULL, 0), 1));
     check("P1 without its check octet is 1",
-          step(&c, KLUMDRAY_SUB, KLUMDRAY_TP1, P1, sizeof P1 - 1) == 1);
-    check("P1 from IP is 10", step(&c, KLUMDRAY_MAIN, KLUMDRAY_IP, P1, sizeof P1) == 10);
-    check("refused rooms are untouched", untouched(room, sizeof c.room) &&
+          is_refused(step(&c, KLUMDRAY_SUB, KLUMDRAY_TP1, P1, sizeof P1 - 1), 1));
+    check("P1 from IP is 10",
+          is_refused(step(&c, KLUMDRAY_MAIN, KLUMDRAY_IP, P1, sizeof P1), 10));
+    check("refused rooms are untouched", untouched(c.room, sizeof c.room) &&
                                              untouched(closed.room, sizeof closed.room));
-    check("refused memories are untouched", is_blank(memory) && is_blank(closed.memory));
+    check("refused memories are untouched", is_blank(c.memory) && is_blank(closed.memory));
+}
+
+/* Frames that are acknowledged, forwarded or for the coupler itself as soon as their check octet is
+ * right. */
+static void damaged_frames(void)
+{
+    uint8_t own_frame[] = {0xB0, 0xAF, 0xFE, 0x47, 0x00, 0x60, 0x00, 0x38};
+    uint8_t p2[sizeof P1];
+    struct coupler c = coupler(0x47, 2);
+    uint64_t answer;
+    memcpy(p2, P1, sizeof P1);
+    p2[11] = 0xE4;
+    check("a step with P2 is 6", is_refused(step(&c, KLUMDRAY_MAIN, KLUMDRAY_TP1, p2, 12), 6));
+    check("so is one with a damaged frame for 4.7.0",
+          is_refused(step(&c, KLUMDRAY_SUB, KLUMDRAY_TP1, own_frame, sizeof own_frame), 6));
+    check("damaged frames leave the room", untouched(c.room, sizeof c.room));
+    check("damaged frames are not remembered", is_blank(c.memory));
+    own_frame[7] = 0x39;
+    answer = step(&c, KLUMDRAY_SUB, KLUMDRAY_TP1, own_frame, sizeof own_frame);
+    check("the frame for 4.7.0 with its check octet is acknowledged and own",
+          klumdray_number(answer) == 0 && klumdray_acknowledgement(answer) == 0xCC &&
+              klumdray_own(answer) == 1 && klumdray_forwarded(answer) == 0);
+    answer = step(&c, KLUMDRAY_MAIN, KLUMDRAY_TP1, P1, sizeof P1);
+    check("P1 is acknowledged and forwarded",
+          klumdray_number(answer) == 0 && klumdray_acknowledgement(answer) == 0xCC &&
+              klumdray_own(answer) == 0 && klumdray_forwarded(answer) == sizeof P1);
 }
 
 enum { MOST_RECORDS = 4 };
@@ -613,7 +664,10 @@ int main(void)
     steps_with_odd_memories();
     steps_for_itself_and_to_ip();
     steps_with_a_table();
+    parts_with_a_refusal();
+    refused_blocks_and_rooms();
     refused_steps();
+    damaged_frames();
     traces_of_groups();
     traces_of_individual_addresses();
     traces_with_tables();
