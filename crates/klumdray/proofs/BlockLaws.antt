@@ -11,7 +11,7 @@ use lib.Seq.{length-take-le, take-all, take-append-le, drop-append-le, drop-appe
 use borrow.Author.Tests.{leb-true, eqb-true}
 use Rattle.coupler.proofs.StepLaws.{heard-size}
 use Rattle.coupler.specs.Memory.{kept, recalled, remembering, sideOf, rememberedOn}
-use Rattle.coupler.specs.Step.{Setting, fromIp, Heard, heard, outcomeOf, HandedOn, memoryAfter, frame, nothing}
+use Rattle.coupler.specs.Step.{Coupler, fromIp, Heard, heard, outcomeBy, HandedOn, memoryAfter, frame, nothing}
 use Rattle.coupler.specs.declared.Memory.{Memory}
 use Rattle.coupler.specs.declared.Outcome.{Outcome}
 use Rattle.frame.proofs.Numbers.{refused-number}
@@ -141,40 +141,40 @@ remembered-block block s side n k =
         rw e (remembered-sub A B na nb s k ∙ ap (λ (l : List ℕ). A ++ l) (half-remembered B s nb k) ∙ ap (λ (l : List ℕ). l ++ halfOf (remembering (rememberedIn B) s)) (sym (half-back A na (q .0))) ∙ sym (ap (λ (m : Memory). halfOf (m .main) ++ halfOf (remembering (m .sub) s)) (split-memory A B na nb)))
 
 -- the block that the code leaves is the memory of the step inside: a remembered frame fits its half
-pub memory-block : (k : Setting) (remembered block s : List ℕ) (h : Heard) → length block ≡ 530 → Octets block → ((m : Meaning) (p : List ℕ) → h ≡ frame m p → fromIp k ≡ false → length s ≤ 263)
-    → cond (eqb (outcomeOf k remembered h .number) 0 && not (fromIp k)) (rememberedAt (startOf (k .side)) s block) block ≡ blockOf (memoryAfter k (memoryIn block) s h)
+pub memory-block : (k : Coupler) (remembered block s : List ℕ) (h : Heard) → length block ≡ 530 → Octets block → ((m : Meaning) (p : List ℕ) → h ≡ frame m p → fromIp k ≡ false → length s ≤ 263)
+    → cond (eqb (outcomeBy k remembered s h .number) 0 && not (fromIp k)) (rememberedAt (startOf (k .setting .side)) s block) block ≡ blockOf (memoryAfter k (memoryIn block) s h)
 memory-block k remembered block s (frame m p) n o size = go (fromIp k) refl
   where
-    go : (b : Bool) → fromIp k ≡ b → cond (not (fromIp k)) (rememberedAt (startOf (k .side)) s block) block ≡ blockOf (cond (fromIp k) (memoryIn block) (rememberedOn (memoryIn block) (k .side) s))
+    go : (b : Bool) → fromIp k ≡ b → cond (not (fromIp k)) (rememberedAt (startOf (k .setting .side)) s block) block ≡ blockOf (cond (fromIp k) (memoryIn block) (rememberedOn (memoryIn block) (k .setting .side) s))
     go true e = rw e (unchanged-block block n o)
-    go false e = rw e (remembered-block block s (k .side) n (size m p refl e) o)
+    go false e = rw e (remembered-block block s (k .setting .side) n (size m p refl e) o)
 memory-block k remembered block s (nothing r) n o size = rw (refused-number r) (unchanged-block block n o)
 
-pub right-block : (a b : ℕ) → eqb a 8 && eqb b 530 ≡ true → b ≡ 530
-right-block a b e = eqb-true b 530 (and-true (eqb a 8) (eqb b 530) e .1)
+pub right-block : (a b : ℕ) → eqb a 10 && eqb b 530 ≡ true → b ≡ 530
+right-block a b e = eqb-true b 530 (and-true (eqb a 10) (eqb b 530) e .1)
 
 -- handing on with the frame that a side's half holds, and putting the frame there by the outcome's number, is the step inside
-pub stepped : (k : Setting) (block s : List ℕ) {room room′ block′ : List ℕ} {o : Outcome} {start n answer : ℕ} → length block ≡ 530 → Octets block → Octets s
-    → start ≡ startOf (k .side) → n ≡ keptIn block start
-    → HandedOn k (take n (drop (start + 2) block)) (heard k s (length room)) room o room′
+pub stepped : (k : Coupler) (block s : List ℕ) {room room′ block′ : List ℕ} {o : Outcome} {start n answer : ℕ} → length block ≡ 530 → Octets block → Octets s
+    → start ≡ startOf (k .setting .side) → n ≡ keptIn block start
+    → HandedOn k (take n (drop (start + 2) block)) s room o room′
     → block′ ≡ cond (eqb (o .number) 0 && not (fromIp k)) (rememberedAt start s block) block
     → answer ≡ outcomeNumber o
     → SteppedThrough true k block s room answer block′ room′
 unfolding heardThrough
 stepped k block s {room} {room′} {block′} {o} {start} {n} size ob os es en x eb ea =
-    let q : take n (drop (start + 2) block) ≡ recalled (sideOf (memoryIn block) (k .side)) = rw (en, es) (recalled-block block (k .side) size) in
-    let y : HandedOn k (recalled (sideOf (memoryIn block) (k .side))) (heard k s (length room)) room o room′ = subst (λ (l : List ℕ). HandedOn k l (heard k s (length room)) room o room′) q x in
+    let q : take n (drop (start + 2) block) ≡ recalled (sideOf (memoryIn block) (k .setting .side)) = rw (en, es) (recalled-block block (k .setting .side) size) in
+    let y : HandedOn k (recalled (sideOf (memoryIn block) (k .setting .side))) s room o room′ = subst (λ (l : List ℕ). HandedOn k l s room o room′) q x in
     record {
       answered = ea ∙ ap outcomeNumber (y .outcome);
       left = y .left;
-      memory = eb ∙ rw (y .outcome, es) (memory-block k (recalled (sideOf (memoryIn block) (k .side))) block s (heard k s (length room)) size ob (λ m p e f. heard-size k s (length room) m p os e f));
+      memory = eb ∙ rw (y .outcome, es) (memory-block k (recalled (sideOf (memoryIn block) (k .setting .side))) block s (heard k s (length room)) size ob (λ m p e f. heard-size k s (length room) m p os e f));
     }
 
--- a block or codes of another size
-pub stepped-wrong : (k : Setting) (block s room : List ℕ) → SteppedThrough false k block s room 14 block room
+-- settings or a memory of another size
+pub stepped-wrong : (k : Coupler) (block s room : List ℕ) → SteppedThrough false k block s room 14 block room
 unfolding heardThrough outcomeNumber
 stepped-wrong k block s room = record { answered = refl; left = refl; memory = refl }
 
 -- two outcomes that the contract allows coincide
-pub stepped-one : {right : Bool} {k : Setting} {block s room : List ℕ} {r₁ r₂ : ℕ} {b₁ b₂ a₁ a₂ : List ℕ} → SteppedThrough right k block s room r₁ b₁ a₁ → SteppedThrough right k block s room r₂ b₂ a₂ → (r₁ ≡ r₂) × ((b₁ ≡ b₂) × (a₁ ≡ a₂))
+pub stepped-one : {right : Bool} {k : Coupler} {block s room : List ℕ} {r₁ r₂ : ℕ} {b₁ b₂ a₁ a₂ : List ℕ} → SteppedThrough right k block s room r₁ b₁ a₁ → SteppedThrough right k block s room r₂ b₂ a₂ → (r₁ ≡ r₂) × ((b₁ ≡ b₂) × (a₁ ≡ a₂))
 stepped-one x y = (x .answered ∙ sym (y .answered), (x .memory ∙ sym (y .memory), x .left ∙ sym (y .left)))

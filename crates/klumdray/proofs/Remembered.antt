@@ -13,7 +13,7 @@ use Rattle.coupler.proofs.Promised.{remembers-main, remembers-sub}
 use Rattle.coupler.proofs.Refusals.{accepted-iff}
 use Rattle.coupler.proofs.StepLaws.{heard-size}
 use Rattle.coupler.specs.Memory.{recalled, remembering, sideOf, rememberedOn}
-use Rattle.coupler.specs.Step.{Setting, Heard, heardTp1, frame, nothing, heard, fromIp}
+use Rattle.coupler.specs.Step.{Coupler, Heard, heardTp1, frame, nothing, heard, fromIp}
 use Rattle.coupler.specs.declared.Memory.{Memory}
 use Rattle.coupler.specs.declared.Remembered.{Remembered}
 use Rattle.frame.proofs.Valid.{ranges-of}
@@ -102,14 +102,14 @@ remembering-length : (r : Remembered) (s : List ℕ) → length (r .octets) ≡ 
 unfolding remembering
 remembering-length r s n k = rw (laid-front s (r .octets) (omega arith), length-append s (drop (length s) (r .octets)), length-drop (length s) (r .octets)) (omega arith)
 
--- an accepted step: codes and block have their sizes, and a frame was heard
+-- an accepted step: settings and memory have their sizes, and a frame was heard
 record Accepted (right : Bool) (h : Heard) : Type 0 where
   lent : right ≡ true
   meaning : Meaning
   payload : List ℕ
   hears : h ≡ frame meaning payload
 
-through-accepted : (right : Bool) (k : Setting) (s : List ℕ) (n : ℕ) → ((r : Refusal) → heardThrough right k s n ≡ nothing r → ⊥) → Accepted right (heard k s n)
+through-accepted : (right : Bool) (k : Coupler) (s : List ℕ) (n : ℕ) → ((r : Refusal) → heardThrough right k s n ≡ nothing r → ⊥) → Accepted right (heard k s n)
 unfolding heardThrough
 through-accepted true k s n none = go (heard k s n) refl
   where
@@ -149,17 +149,17 @@ heard-least s m p o = go (readTp1 s) refl
         omega (arith, ap length (w .layout) ∙ length-octets x l, head-least (x .extended), ranges-of x (length l) (w .valid .ranges) .some)
     go (Refused r) q z = let y : _≡_ {A = ℕ} 0 1 = cc in absurd (omega arith)
 
-module _ {right : Bool} {k : Setting} {block s room : List ℕ} {answer : ℕ} {block′ room′ : List ℕ} (lent : right ≡ true → length block ≡ 530) (os : Octets s) (w : SteppedThrough right k block s room answer block′ room′) where
+module _ {right : Bool} {k : Coupler} {block s room : List ℕ} {answer : ℕ} {block′ room′ : List ℕ} (lent : right ≡ true → length block ≡ 530) (os : Octets s) (w : SteppedThrough right k block s room answer block′ room′) where
   accepted : numberIn answer ≡ 0 → Accepted right (heard k s (length room))
   accepted z = through-accepted right k s (length room) (step-told os w .accepted .0 z)
 
   -- an accepted TP1 frame: its side is one of the two, it fits the block, and the block holds it
   record Kept : Type 0 where
     size : length block ≡ 530
-    side : k .side < 2
+    side : k .setting .side < 2
     least : 8 ≤ length s
     fits : length s ≤ 263
-    put : block′ ≡ blockOf (rememberedOn (memoryIn block) (k .side) s)
+    put : block′ ≡ blockOf (rememberedOn (memoryIn block) (k .setting .side) s)
 
   kept : numberIn answer ≡ 0 → fromIp k ≡ false → Kept
   unfolding heardThrough
@@ -168,7 +168,7 @@ module _ {right : Bool} {k : Setting} {block s room : List ℕ} {answer : ℕ} {
       let x = accepted-iff k s (length room) (a .meaning) (a .payload) .0 (a .hears) in
       record {
         size = lent (a .lent);
-        side = ltb-true (k .side) 2 (and-true (ltb (k .side) 2) (ltb (k .medium) 2) (not-false (ltb (k .side) 2 && ltb (k .medium) 2) (x .0 .1 .1 .0)) .0);
+        side = ltb-true (k .setting .side) 2 (and-true (ltb (k .setting .side) 2) (ltb (k .setting .medium) 2) (not-false (ltb (k .setting .side) 2 && ltb (k .setting .medium) 2) (x .0 .1 .1 .0)) .0);
         least = heard-least s (a .meaning) (a .payload) os (rw f at (x .1));
         fits = heard-size k s (length room) (a .meaning) (a .payload) os (a .hears) f;
         put = w .memory ∙ rw (a .lent, a .hears, f);
@@ -176,26 +176,26 @@ module _ {right : Bool} {k : Setting} {block s room : List ℕ} {answer : ℕ} {
 
   -- size and frame in the side's part, all else as it was
   pub step-remembers : Octets block → numberIn answer ≡ 0 → fromIp k ≡ false
-      → block′ ≡ laid s (rememberedStart (k .side)) (laid (high (length s) ∷ low (length s) ∷ []) (rememberedPart (k .side)) block)
+      → block′ ≡ laid s (rememberedStart (k .setting .side)) (laid (high (length s) ∷ low (length s) ∷ []) (rememberedPart (k .setting .side)) block)
   unfolding rememberedAt
   step-remembers ob z f =
       let x = kept z f in
       let n : length s % 65536 ≡ length s = omega (arith, x .fits) in
-      x .put ∙ sym (remembered-block block s (k .side) (x .size) (x .fits) ob) ∙ rw (same-part (k .side) (x .side), n)
+      x .put ∙ sym (remembered-block block s (k .setting .side) (x .size) (x .fits) ob) ∙ rw (same-part (k .setting .side) (x .side), n)
 
   -- and the helpers read the frame
   pub step-recalls : numberIn answer ≡ 0 → fromIp k ≡ false
-      → (8 ≤ length s) × ((rememberedSize block′ (k .side) ≡ length s) × (take (rememberedSize block′ (k .side)) (drop (rememberedStart (k .side)) block′) ≡ s))
+      → (8 ≤ length s) × ((rememberedSize block′ (k .setting .side) ≡ length s) × (take (rememberedSize block′ (k .setting .side)) (drop (rememberedStart (k .setting .side)) block′) ≡ s))
   step-recalls z f =
       let x = kept z f in
       let a : length (take 265 block) ≡ 265 = length-take-le 265 block (omega (arith, x .size)) in
       let b : length (drop 265 block) ≡ 265 = length-drop 265 block ∙ omega (arith, x .size) in
-      let r = recalls-put (memoryIn block) (k .side) s (x .side) (octets-263 (take 265 block) a) (octets-263 (drop 265 block) b) (x .fits) in
-      let n : length block′ ≡ 530 = ap length (x .put) ∙ block-length (rememberedOn (memoryIn block) (k .side) s) (r .main) (r .sub) in
-      let m : memoryIn block′ ≡ rememberedOn (memoryIn block) (k .side) s = ap memoryIn (x .put) ∙ block-read (rememberedOn (memoryIn block) (k .side) s) (r .main) (r .sub) in
-      let e : take (rememberedSize block′ (k .side)) (drop (rememberedStart (k .side)) block′) ≡ s = remembered-is block′ (k .side) n (x .side) ∙ ap (λ (y : Memory). recalled (sideOf y (k .side))) m ∙ r .frame in
-      let l : length (take (rememberedSize block′ (k .side)) (drop (rememberedStart (k .side)) block′)) ≡ rememberedSize block′ (k .side) =
-      length-take-le (rememberedSize block′ (k .side)) (drop (rememberedStart (k .side)) block′) (rw length-drop (omega (arith, n, remembered-within block′ (k .side) n (x .side)))) in
+      let r = recalls-put (memoryIn block) (k .setting .side) s (x .side) (octets-263 (take 265 block) a) (octets-263 (drop 265 block) b) (x .fits) in
+      let n : length block′ ≡ 530 = ap length (x .put) ∙ block-length (rememberedOn (memoryIn block) (k .setting .side) s) (r .main) (r .sub) in
+      let m : memoryIn block′ ≡ rememberedOn (memoryIn block) (k .setting .side) s = ap memoryIn (x .put) ∙ block-read (rememberedOn (memoryIn block) (k .setting .side) s) (r .main) (r .sub) in
+      let e : take (rememberedSize block′ (k .setting .side)) (drop (rememberedStart (k .setting .side)) block′) ≡ s = remembered-is block′ (k .setting .side) n (x .side) ∙ ap (λ (y : Memory). recalled (sideOf y (k .setting .side))) m ∙ r .frame in
+      let l : length (take (rememberedSize block′ (k .setting .side)) (drop (rememberedStart (k .setting .side)) block′)) ≡ rememberedSize block′ (k .setting .side) =
+      length-take-le (rememberedSize block′ (k .setting .side)) (drop (rememberedStart (k .setting .side)) block′) (rw length-drop (omega (arith, n, remembered-within block′ (k .setting .side) n (x .side)))) in
       (x .least, (sym l ∙ ap length e, e))
 
   -- a refused step leaves block and room; a frame from IP leaves the block

@@ -8,10 +8,11 @@ use lib.ListN.{length}
 use Rattle.coupler.proofs.StepLaws.{heard-valid}
 use Rattle.coupler.specs.Answers.{acknowledgementNumber}
 use Rattle.coupler.specs.Memory.{recalled, sideOf}
-use Rattle.coupler.specs.Step.{Setting, Heard, frame, nothing, heard, toIp, isForwarded, repeats, forwardedMeaning, indication, formOf, outcomeOf, refusedOutcome}
+use Rattle.coupler.specs.Step.{Coupler, Heard, frame, nothing, heard, toIp, isForwarded, repeats, forwardedMeaning, indication, formOf, outcomeOf, outcomeBy, refusedOutcome}
 use Rattle.coupler.specs.declared.Acknowledgement.{Acknowledgement}
 use Rattle.coupler.specs.declared.Acknowledgement.the-variants.{Silence, Acknowledged}
 use Rattle.coupler.specs.declared.Outcome.{Outcome}
+use Rattle.coupler.specs.declared.Setting.{Setting}
 use Rattle.frame.proofs.Valid.{most-payload}
 use Rattle.frame.specs.Refusals.{number}
 use Rattle.frame.specs.declared.Meaning.{Meaning}
@@ -71,20 +72,20 @@ module _ (o : Outcome) (n : o .number ≤ 18) (h : o .forwarded ≤ 270) where
 
 -- a step forwards at most 270 octets, the size of the longest routing datagram in the plain form
 
-form-most : (ip : Bool) (m : Meaning) (p : List ℕ) → length p ≤ 255 → length (formOf ip m p) ≤ 270
+form-most : (ip : Bool) (k : Setting) (m : Meaning) (p : List ℕ) → length p ≤ 255 → length (formOf ip k m p) ≤ 270
 unfolding formOf
-form-most true m p h = omega (arith, length-routing (indication (forwardedMeaning m)) p)
-form-most false m p h = omega (arith, length-octets (forwardedMeaning m) p, head-most (m .extended))
+form-most true k m p h = omega (arith, length-routing (indication (forwardedMeaning k m)) p)
+form-most false k m p h = omega (arith, length-octets (forwardedMeaning k m) p, head-most (m .extended))
 
 if-most : (b : Bool) (l : List ℕ) → length l ≤ 270 → length (cond b l []) ≤ 270
 if-most true l h = h
 if-most false l h = omega arith
 
-pub at-most-270 : (k : Setting) (remembered s : List ℕ) (room : ℕ) → Octets s → outcomeOf k remembered (heard k s room) .forwarded ≤ 270
+pub at-most-270 : (k : Coupler) (remembered s : List ℕ) (room : ℕ) → Octets s → outcomeOf k remembered s room .forwarded ≤ 270
 at-most-270 k remembered s room o = go (heard k s room) refl
   where
-    go : (h : Heard) → heard k s room ≡ h → outcomeOf k remembered h .forwarded ≤ 270
-    go (frame m p) e = if-most (isForwarded k (repeats k remembered m) m) (formOf (toIp k) m p) (form-most (toIp k) m p (most-payload m (length p) (heard-valid k s room m p o e .ranges)))
+    go : (h : Heard) → heard k s room ≡ h → outcomeBy k remembered s h .forwarded ≤ 270
+    go (frame m p) e = if-most (isForwarded k (repeats k remembered s) m) (formOf (toIp k) (k .setting) m p) (form-most (toIp k) (k .setting) m p (most-payload m (length p) (heard-valid k s room m p o e .ranges)))
     go (nothing r) e = omega arith
 
 heard-refused : (m : Meaning) (p : List ℕ) (r : Refusal) → frame m p ≡ nothing r → ⊥
@@ -93,45 +94,45 @@ heard-refused m p r e = let z : _≡_ {A = ℕ} 0 1 = cc in absurd (omega arith)
 heard-apart : (q r : Refusal) → nothing q ≡ nothing r → q ≡ r
 heard-apart q r e = cc
 
-numbered-most : (k : Setting) (remembered : List ℕ) (h : Heard) → outcomeOf k remembered h .number ≤ 18
-numbered-most k remembered (frame m p) = omega arith
-numbered-most k remembered (nothing q) = number-most q
+numbered-most : (k : Coupler) (remembered s : List ℕ) (h : Heard) → outcomeBy k remembered s h .number ≤ 18
+numbered-most k remembered s (frame m p) = omega arith
+numbered-most k remembered s (nothing q) = number-most q
 
-outcome-answer : (k : Setting) (remembered : List ℕ) (h : Heard) → outcomeOf k remembered h .forwarded ≤ 270
-    → Tells 64 outcomeFrom (outcomeNumber (outcomeOf k remembered h)) (outcomeNumbered (outcomeOf k remembered h)) (λ r. h ≡ nothing r)
+outcome-answer : (k : Coupler) (remembered s : List ℕ) (h : Heard) → outcomeBy k remembered s h .forwarded ≤ 270
+    → Tells 64 outcomeFrom (outcomeNumber (outcomeBy k remembered s h)) (outcomeNumbered (outcomeBy k remembered s h)) (λ r. h ≡ nothing r)
 unfolding outcomeNumber
-outcome-answer k remembered (frame m p) h =
-    let o : Outcome = outcomeOf k remembered (frame m p) in
+outcome-answer k remembered s (frame m p) h =
+    let o : Outcome = outcomeBy k remembered s (frame m p) in
     tells-accepted (outcome-number o (omega arith) h) (heard-refused m p) (outcome-fits o (omega arith) h) (outcome-decoded o (omega arith) h)
-outcome-answer k remembered (nothing q) h =
-    let e : outcomeNumber (refusedOutcome q) ≡ number q = omega arith in
-    tells-refused q e refl (heard-apart q) (omega arith) (ap outcomeFrom (sym e) ∙ outcome-decoded (refusedOutcome q) (number-most q) h)
+outcome-answer k remembered s (nothing q) h =
+    let e : outcomeNumber (refusedOutcome k s q) ≡ number q = omega arith in
+    tells-refused q e refl (heard-apart q) (omega arith) (ap outcomeFrom (sym e) ∙ outcome-decoded (refusedOutcome k s q) (number-most q) h)
 
 -- the same through the surface
-module _ {right : Bool} {k : Setting} {block s room : List ℕ} {answer : ℕ} {block′ room′ : List ℕ} (os : Octets s) (w : SteppedThrough right k block s room answer block′ room′) where
+module _ {right : Bool} {k : Coupler} {block s room : List ℕ} {answer : ℕ} {block′ room′ : List ℕ} (os : Octets s) (w : SteppedThrough right k block s room answer block′ room′) where
   remembered : List ℕ
-  remembered = recalled (sideOf (memoryIn block) (k .side))
+  remembered = recalled (sideOf (memoryIn block) (k .setting .side))
 
-  through-most : outcomeOf k remembered (heardThrough right k s (length room)) .forwarded ≤ 270
+  through-most : outcomeBy k remembered s (heardThrough right k s (length room)) .forwarded ≤ 270
   unfolding heardThrough
   through-most = go right
     where
-      go : (b : Bool) → outcomeOf k remembered (cond b (heard k s (length room)) (nothing OutOfRange)) .forwarded ≤ 270
+      go : (b : Bool) → outcomeBy k remembered s (cond b (heard k s (length room)) (nothing OutOfRange)) .forwarded ≤ 270
       go true = at-most-270 k remembered s (length room) os
       go false = omega arith
 
-  pub step-told : Tells 64 outcomeFrom answer (outcomeNumbered (outcomeOf k (recalled (sideOf (memoryIn block) (k .side))) (heardThrough right k s (length room)))) (λ r. heardThrough right k s (length room) ≡ nothing r)
+  pub step-told : Tells 64 outcomeFrom answer (outcomeNumbered (outcomeBy k (recalled (sideOf (memoryIn block) (k .setting .side))) s (heardThrough right k s (length room)))) (λ r. heardThrough right k s (length room) ≡ nothing r)
   unfolding remembered
-  step-told = rw (w .answered) (outcome-answer k remembered (heardThrough right k s (length room)) through-most)
+  step-told = rw (w .answered) (outcome-answer k remembered s (heardThrough right k s (length room)) through-most)
 
   pub step-between : bits 17 15 answer ≡ 0
   unfolding remembered
   step-between =
       let h : Heard = heardThrough right k s (length room) in
-      rw (w .answered) (outcome-between (outcomeOf k remembered h) (numbered-most k remembered h) through-most)
+      rw (w .answered) (outcome-between (outcomeBy k remembered s h) (numbered-most k remembered s h) through-most)
 
   pub step-most : forwardedIn answer ≤ 270
   unfolding remembered
   step-most =
       let h : Heard = heardThrough right k s (length room) in
-      rw (w .answered, outcome-forwarded (outcomeOf k remembered h) (numbered-most k remembered h) through-most) through-most
+      rw (w .answered, outcome-forwarded (outcomeBy k remembered s h) (numbered-most k remembered s h) through-most) through-most

@@ -16,7 +16,7 @@ use Rattle.klumdray.specs.Stages.{Sized}
 use Rattle.klumdray.specs.Traces.{TracedThrough}
 use Rattle.octets.proofs.Weigh.{weigh-most}
 use Rattle.site.specs.Stores.{Stores}
-use Rattle.tracer.specs.Listing.{Query}
+use Rattle.tracer.specs.declared.Query.{Query}
 use Rattle.frame.specs.declared.Written.the-variants.{Put, Refused as Unwritten}
 
 -- a size that is written has a number

@@ -9,10 +9,10 @@ use native.Mathlib.Omega.{arith}
 use lib.Dec.{leb, eqb}
 use lib.ListN.{length, getD}
 use borrow.Author.Tests.{leb-true, eqb-true, eqb-false, not-false}
-use Rattle.coupler.specs.Answers.{passageNumber}
-use Rattle.coupler.specs.Passing.{doesPass}
-use Rattle.coupler.specs.declared.Passage.{Passage}
-use Rattle.coupler.specs.declared.Passage.the-variants.{Passes, NotFitted, OwnAddress, Closed, NotBelow, NotAbove, NotInTable, UsedUp}
+use Rattle.passing.specs.Answers.{passageNumber}
+use Rattle.passing.specs.Passing.{doesPass}
+use Rattle.passing.specs.declared.Passage.{Passage}
+use Rattle.passing.specs.declared.Passage.the-variants.{Passes, NotFitted, OwnAddress, Closed, NotBelow, NotAbove, NotInTable, UsedUp}
 use Rattle.frame.proofs.Numbers.{refused-number}
 use Rattle.frame.proofs.Order.{passed-iff}
 use Rattle.frame.specs.Answers.{Numbered}
@@ -35,8 +35,10 @@ use Rattle.tracer.proofs.Paths.{by-cases}
 use Rattle.tracer.proofs.ReachingLaws.{count-most}
 use Rattle.tracer.specs.Answers.{explanationNumbered}
 use Rattle.tracer.specs.Lines.{Crossing, mainSide, depth, mainSides, mainSidesBy, beforeCommon, down, upOver, downOver, path, up}
-use Rattle.tracer.specs.Listing.{Query, crossingPasses, isListed, countBelow, linesListed, isForwarding, forwardings}
-use Rattle.tracer.specs.Tracing.{isQuery, traceTests, tracedBy, listBy}
+use Rattle.tracer.specs.Listing.{crossingPasses, isListed, countBelow, linesListed, isForwarding, forwardings}
+use Rattle.tracer.specs.declared.Query.{Query}
+use Rattle.tracer.specs.Query.{isQuery}
+use Rattle.tracer.specs.Tracing.{traceTests, tracedBy, listBy}
 use Rattle.tracer.specs.Why.{whyOf, whyTests, answerWhy}
 use Rattle.tracer.specs.declared.Explanation.{Explanation}
 use Rattle.tracer.specs.declared.Explanation.the-variants.{Reached, NotReached, Refused}
@@ -67,11 +69,11 @@ module _ (st : Stores) (site : List ℕ) (q : Query) where
   forwardings-most = both-most (λ n. hands (down (suc n))) (λ n. hands (up (suc n)))
     where
       hands : Crossing → Bool
-      hands = isForwarding (crossingPasses st site q) (q .start) (q .count)
+      hands = isForwarding (crossingPasses st site q) q
 
   lines-some : q .start < 256 → 1 ≤ linesListed st site q
   unfolding linesListed
-  lines-some h = count-some (isListed (crossingPasses st site q) (q .start) (q .count)) 256 (q .start) h (start-listed (crossingPasses st site q) (q .start) (q .count))
+  lines-some h = count-some (isListed (crossingPasses st site q) (q .start) (q .count)) 256 (q .start) h (start-listed (crossingPasses st site q) q)
 
 tracedFields : Traced → List Field
 tracedFields t = 8 holding t .number ∷ 16 holding t .lines ∷ 16 holding t .forwardings ∷ []

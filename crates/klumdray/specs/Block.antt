@@ -1,5 +1,6 @@
--- The lent block in which a caller of the surface keeps a coupler's memory: 530 octets, for the main side two octets of size and 263
--- octets, then the same for the sub side. include/klumdray.h says the same in its words.
+-- The lent blocks of the surface. A coupler's settings: ten octets, own line, four codes main to sub, four codes sub to main, main medium.
+-- A coupler's memory: 530 octets, for the main side two octets of size and 263 octets, then the same for the sub side. include/klumdray.h
+-- says the same in its words.
 use Prim.Native.Nat.{ℕ, _+_, _*_, _%_, _^_}
 use mathlib.Core.Path.{_≡_}
 use mathlib.Core.List.{List, [], _∷_, _++_}
@@ -15,7 +16,9 @@ use Rattle.coupler.specs.declared.Outcome.{Outcome}
 use Rattle.coupler.specs.declared.Remembered.{Remembered}
 use Rattle.coupler.specs.declared.Memory.{Memory}
 use Rattle.coupler.specs.Memory.{recalled, sideOf}
-use Rattle.coupler.specs.Step.{Setting, Heard, nothing, heard, outcomeOf, sent, memoryAfter}
+use Rattle.coupler.specs.Setting.{settingOf}
+use Rattle.coupler.specs.Step.{Coupler, couplerBy, Heard, nothing, heard, outcomeBy, sentBy, memoryAfter}
+use Rattle.coupler.specs.declared.Setting.{Setting}
 
 -- the frame that one side's 265 octets hold
 abbrev pub rememberedIn : List ℕ → Remembered
@@ -30,26 +33,32 @@ halfOf r = high (r .size) ∷ low (r .size) ∷ r .octets
 unfoldable pub blockOf : Memory → List ℕ
 blockOf m = halfOf (m .main) ++ halfOf (m .sub)
 
--- the eight codes of the surface, main to sub and then sub to main
+-- a block of settings, with the side that a frame is received from
+abbrev pub settingIn : List ℕ → ℕ → Setting
+settingIn settings side = settingOf (octetAt settings 0) side (octetAt settings 9)
+
 abbrev pub codesIn : List ℕ → List (List ℕ)
-codesIn s =
-    (octetAt s 0 ∷ octetAt s 1 ∷ octetAt s 2 ∷ octetAt s 3 ∷ [])
-    ∷ (octetAt s 4 ∷ octetAt s 5 ∷ octetAt s 6 ∷ octetAt s 7 ∷ [])
+codesIn settings =
+    (octetAt settings 1 ∷ octetAt settings 2 ∷ octetAt settings 3 ∷ octetAt settings 4 ∷ [])
+    ∷ (octetAt settings 5 ∷ octetAt settings 6 ∷ octetAt settings 7 ∷ octetAt settings 8 ∷ [])
     ∷ []
+
+abbrev pub couplerSet : List ℕ → ℕ → List ℕ → Coupler
+couplerSet settings side table = couplerBy (settingIn settings side) (codesIn settings) table
 
 -- bits 0 to 7 the number, 8 to 15 the acknowledgement, 16 for itself, 32 to 47 the octets forwarded (no step sends more than 270)
 unfoldable pub outcomeNumber : Outcome → ℕ
 outcomeNumber o = o .number + acknowledgementNumber (o .acknowledgement) * 2 ^ 8 + weigh (o .own) 1 * 2 ^ 16 + o .forwarded % 65536 * 2 ^ 32
 
--- codes or a block of another size are refused by 14, before any other refusal (docs/DECISIONS.md)
+-- settings or a memory of another size are refused by 14, before any other refusal (docs/DECISIONS.md)
 abbrev pub lentRight : List ℕ → List ℕ → Bool
-lentRight codes block = eqb (length codes) 8 && eqb (length block) 530
+lentRight settings block = eqb (length settings) 10 && eqb (length block) 530
 
-unfoldable pub heardThrough : Bool → Setting → List ℕ → ℕ → Heard
+unfoldable pub heardThrough : Bool → Coupler → List ℕ → ℕ → Heard
 heardThrough right k s room = cond right (heard k s room) (nothing OutOfRange)
 
 -- a step through the surface: what the step inside does, its answer as a number and its memory in the block
-pub record SteppedThrough (right : Bool) (k : Setting) (block s room : List ℕ) (answer : ℕ) (block′ room′ : List ℕ) : Type 0 where
-  pub answered : answer ≡ outcomeNumber (outcomeOf k (recalled (sideOf (memoryIn block) (k .side))) (heardThrough right k s (length room)))
-  pub left : room′ ≡ over (sent k (recalled (sideOf (memoryIn block) (k .side))) (heardThrough right k s (length room))) room
+pub record SteppedThrough (right : Bool) (k : Coupler) (block s room : List ℕ) (answer : ℕ) (block′ room′ : List ℕ) : Type 0 where
+  pub answered : answer ≡ outcomeNumber (outcomeBy k (recalled (sideOf (memoryIn block) (k .setting .side))) s (heardThrough right k s (length room)))
+  pub left : room′ ≡ over (sentBy k (recalled (sideOf (memoryIn block) (k .setting .side))) s (heardThrough right k s (length room))) room
   pub memory : block′ ≡ cond right (blockOf (memoryAfter k (memoryIn block) s (heardThrough right k s (length room)))) block

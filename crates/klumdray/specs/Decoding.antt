@@ -15,7 +15,9 @@ use Rattle.frame.specs.declared.Refusal.{Refusal}
 use Rattle.octets.specs.Octets.{octetAt, weigh}
 use Rattle.octets.specs.Word.{wordAt}
 use Rattle.tracer.specs.Lines.{Crossing, distance}
-use Rattle.tracer.specs.Listing.{isListed, onArrival}
+use Rattle.tracer.specs.Query.{onArrival}
+use Rattle.tracer.specs.declared.Query.{Query}
+use Rattle.tracer.specs.Listing.{isListed}
 use Rattle.tracer.specs.declared.Traced.{Traced}
 
 -- so many bits of a number from a bit on, the bit 0 being worth 1: a shift and a mask
@@ -213,13 +215,13 @@ abbrev pub listedCrossed : List ℕ → ℕ → ℕ
 listedCrossed room place = octetAt room (3 * place + 2)
 
 -- "Each listed line takes three octets: line, count on arrival .., couplers crossed": what a place of the room says
-pub record ListedAt (passes : Crossing → Bool) (start count : ℕ) (room : List ℕ) (place : ℕ) : Type 0 where
-  pub listed : isListed passes start count (listedLine room place) ≡ true
-  pub arrives : listedCount room place ≡ onArrival count (distance start (listedLine room place))
-  pub crossed : listedCrossed room place ≡ distance start (listedLine room place)
+pub record ListedAt (passes : Crossing → Bool) (q : Query) (room : List ℕ) (place : ℕ) : Type 0 where
+  pub listed : isListed passes (q .start) (q .count) (listedLine room place) ≡ true
+  pub arrives : listedCount room place ≡ onArrival q (distance (q .start) (listedLine room place))
+  pub crossed : listedCrossed room place ≡ distance (q .start) (listedLine room place)
 
 -- the list as the helpers read it off a trace's answer and room: each place has a listed line, the lines rise, and every listed line has a place
-pub record ListReads (passes : Crossing → Bool) (start count : ℕ) (answer : ℕ) (room : List ℕ) : Type 0 where
-  pub places : (place : ℕ) → place < linesIn answer → (listedLine room place < 256) × ListedAt passes start count room place
+pub record ListReads (passes : Crossing → Bool) (q : Query) (answer : ℕ) (room : List ℕ) : Type 0 where
+  pub places : (place : ℕ) → place < linesIn answer → (listedLine room place < 256) × ListedAt passes q room place
   pub rising : (place later : ℕ) → place < later → later < linesIn answer → listedLine room place < listedLine room later
-  pub each : (line : ℕ) → line < 256 → isListed passes start count line ≡ true → (place : ℕ) × ((place < linesIn answer) × (listedLine room place ≡ line))
+  pub each : (line : ℕ) → line < 256 → isListed passes (q .start) (q .count) line ≡ true → (place : ℕ) × ((place < linesIn answer) × (listedLine room place ≡ line))

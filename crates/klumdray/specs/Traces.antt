@@ -3,12 +3,12 @@ use Prim.Native.Nat.{ℕ, _+_, _*_, _%_, _^_}
 use mathlib.Core.List.{List}
 use mathlib.Core.Path.{_≡_}
 use lib.ListN.{length}
-use Rattle.coupler.specs.Answers.{passageNumber}
+use Rattle.passing.specs.Answers.{passageNumber}
 use Rattle.frame.specs.Order.{firstOf}
 use Rattle.frame.specs.Refusals.{number}
 use Rattle.octets.specs.Room.{over}
 use Rattle.site.specs.Stores.{Stores}
-use Rattle.tracer.specs.Listing.{Query}
+use Rattle.tracer.specs.declared.Query.{Query}
 use Rattle.tracer.specs.Tracing.{traceTests, tracedBy, listBy}
 use Rattle.tracer.specs.declared.Explanation.the-variants.{Reached, NotReached, Refused}
 use Rattle.tracer.specs.declared.Explanation.{Explanation}

@@ -1,27 +1,38 @@
-// The lent block in which a caller keeps a coupler's memory, and the outcome of a step as a number.
+// The lent blocks of a coupler's settings and memory, and the outcome of a step as a number.
 ghost use mathlib.Core.Path.{_≡_};
 ghost use Prim.Native.Nat.{_≤_};
 ghost use mathlib.Core.Bool.{cond};
 ghost use Rattle.coupler.specs.Answers.{acknowledgementNumber};
-ghost use Rattle.klumdray.specs.Block.{codesIn, outcomeNumber};
+ghost use Rattle.klumdray.specs.Block.{settingIn, codesIn, outcomeNumber};
 ghost use Rattle.klumdray.specs.Stages.{startOf, keptIn, rememberedAt};
 use coupler::Acknowledgement;
 use coupler::Outcome;
+use coupler::Setting;
 
-pub(crate) fn codes_in(codes: &[u8]) -> [[u8; 4]; 2]
-    ensures { λ r. ⌜ r ≡ codesIn (now (codes .entry)) ⌝ }
+pub(crate) fn setting_in(settings: &[u8], side: u8) -> Setting
+    ensures { λ r. ⌜ r ≡ settingIn (now (settings .entry)) side ⌝ }
+{
+    Setting {
+        line: octets::octet(settings, 0),
+        side,
+        medium: octets::octet(settings, 9),
+    }
+}
+
+pub(crate) fn codes_in(settings: &[u8]) -> [[u8; 4]; 2]
+    ensures { λ r. ⌜ r ≡ codesIn (now (settings .entry)) ⌝ }
 {
     let down = [
-        octets::octet(codes, 0),
-        octets::octet(codes, 1),
-        octets::octet(codes, 2),
-        octets::octet(codes, 3),
+        octets::octet(settings, 1),
+        octets::octet(settings, 2),
+        octets::octet(settings, 3),
+        octets::octet(settings, 4),
     ];
     let up = [
-        octets::octet(codes, 4),
-        octets::octet(codes, 5),
-        octets::octet(codes, 6),
-        octets::octet(codes, 7),
+        octets::octet(settings, 5),
+        octets::octet(settings, 6),
+        octets::octet(settings, 7),
+        octets::octet(settings, 8),
     ];
     [down, up]
 }

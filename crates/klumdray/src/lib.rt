@@ -7,14 +7,14 @@ ghost use mathlib.Core.Path.{_≡_};
 ghost use mathlib.Core.Bool.{_&&_};
 ghost use Rattle.octets.specs.Check.{checkOctet};
 ghost use lib.Dec.{ltb};
-ghost use Rattle.coupler.specs.Step.{settingOf};
 ghost use Rattle.site.specs.Stores.{stores};
-ghost use Rattle.tracer.specs.Listing.{queryOf};
+ghost use Rattle.tracer.specs.Query.{queryOf};
 ghost use Rattle.tracer.specs.Why.{answerWhy};
-ghost use Rattle.klumdray.specs.Block.{codesIn, lentRight, SteppedThrough};
+ghost use Rattle.klumdray.specs.Block.{couplerSet, lentRight, SteppedThrough};
 ghost use Rattle.klumdray.specs.Numbers.{tp1Answered, cemiAnswered, routingAnswered, areFlags, meaningFrom, messageFrom, WroteTp1, WroteCemi, WroteRouting};
 ghost use Rattle.klumdray.specs.Traces.{explanationNumber, TracedThrough};
 use cemi::Codes;
+use tracer::Query;
 
 #[no_mangle]
 pub extern "C" fn klumdray_check_octet(octets: &[u8]) -> u8
@@ -153,34 +153,24 @@ pub extern "C" fn klumdray_routing_write(
 
 #[no_mangle]
 pub extern "C" fn klumdray_step(
-    line: u8,
-    codes: &[u8],
+    settings: &[u8],
     table: &[u8],
     side: u8,
-    medium: u8,
     memory: &mut [u8],
     octets: &[u8],
     room: &mut [u8],
 ) -> u64
-    ensures { λ r. ⌜ SteppedThrough (lentRight (now (codes .entry)) (now (memory .entry))) (settingOf line (codesIn (now (codes .entry))) (now (table .entry)) side medium) (now (memory .entry)) (now (octets .entry)) (now (room .entry)) r (now (memory .exit)) (now (room .exit)) ⌝ }
+    ensures { λ r. ⌜ SteppedThrough (lentRight (now (settings .entry)) (now (memory .entry))) (couplerSet (now (settings .entry)) side (now (table .entry))) (now (memory .entry)) (now (octets .entry)) (now (room .entry)) r (now (memory .exit)) (now (room .exit)) ⌝ }
 {
-    let right = (codes.len() == 8) & (memory.len() == 530);
+    let right = (settings.len() == 10) & (memory.len() == 530);
     if right {
-        let rows = block::codes_in(codes);
+        let setting = block::setting_in(settings, side);
+        let codes = block::codes_in(settings);
         let start = block::start_of(side);
         let from = start + 2;
         let end = from + block::kept_in(memory, start);
-        let outcome = coupler::hand_on(
-            line,
-            rows,
-            table,
-            side,
-            medium,
-            &memory[from..end],
-            octets,
-            room,
-        );
-        let ip = (side == 0) & (medium == 1);
+        let outcome = coupler::hand_on(setting, codes, table, &memory[from..end], octets, room);
+        let ip = (side == 0) & (setting.medium == 1);
         let accepted = (outcome.number == 0) & !ip;
         block::remember_if(accepted, memory, start, octets);
         block::of_outcome(outcome)
@@ -202,7 +192,13 @@ pub extern "C" fn klumdray_trace<'a>(
 ) -> u64
     ensures { λ r. ⌜ TracedThrough (stores (now (project .entry)) (now (own .entry))) (now (site .entry)) (queryOf start kind destination count) (now (room .entry)) r (now (room .exit)) ⌝ }
 {
-    let traced = tracer::trace(start, kind, destination, count, site, project, own, room);
+    let query = Query {
+        start,
+        kind,
+        destination,
+        count,
+    };
+    let traced = tracer::trace(query, site, project, own, room);
     traces::of_traced(traced)
 }
 
@@ -219,6 +215,12 @@ pub extern "C" fn klumdray_why<'a>(
 ) -> u32
     ensures { λ r. ⌜ r ≡ explanationNumber (answerWhy (stores (now (project .entry)) (now (own .entry))) (now (site .entry)) (queryOf start kind destination count) line) ⌝ }
 {
-    let explanation = tracer::why(start, kind, destination, count, site, project, own, line);
+    let query = Query {
+        start,
+        kind,
+        destination,
+        count,
+    };
+    let explanation = tracer::why(query, site, project, own, line);
     traces::of_explanation(explanation)
 }

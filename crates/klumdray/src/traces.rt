@@ -2,9 +2,9 @@
 ghost use mathlib.Core.Path.{_≡_};
 ghost use Prim.Native.Nat.{_<_};
 ghost use Rattle.tracer.specs.declared.Explanation.the-variants.{NotReached};
-ghost use Rattle.coupler.specs.Answers.{passageNumber};
+ghost use Rattle.passing.specs.Answers.{passageNumber};
 ghost use Rattle.klumdray.specs.Traces.{tracedNumber, explanationNumber};
-use coupler::Passage;
+use passing::Passage;
 use tracer::Explanation;
 use tracer::Stop;
 use tracer::Traced;

@@ -4,21 +4,42 @@ use mathlib.Core.Path.{_≡_}
 use native.Mathlib.Omega.{arith}
 use lib.ListN.{length}
 use borrow.Author.Needs.{needs}
-use Rattle.coupler.specs.Step.{settingOf}
 use Rattle.klumdray.proofs.BlockLaws.{right-block, stepped, stepped-wrong}
-use Rattle.klumdray.specs.Block.{codesIn}
+use Rattle.klumdray.specs.Block.{couplerSet}
 use Rattle.klumdray.proofs.klumdray_step.Statement.{statement}
 use Rattle.klumdray.proofs.klumdray_step.Tie as tie
 
 part-hand-on-end : tie.Need-part-hand-on-end
 part-hand-on-end c =
-    omega (arith, c .before .before .before .start-of .ensures .1, c .before .kept-in .ensures .1, right-block (length (c .before .before .before .before .before .before .before .before .before .before .before .args .codes .now)) (length (c .before .before .before .before .before .before .before .before .before .before .before .args .memory .now)) (c .before .before .before .before .before .if1 .taken))
+    let start-of = c .before .before .before .start-of in
+    let if1 = c .before .before .before .before .before .before .if1 in
+    let back = c .before .before .before .before .before .before in
+    let begun = back .before .before .before .before .before .before in
+    let a = begun .args in
+    omega (arith, start-of .ensures .1, c .before .kept-in .ensures .1, right-block (length (a .settings .now)) (length (a .memory .now)) (if1 .taken))
 
 returns : tie.Need-returns
 returns c =
-    let k = settingOf (c .before .before .before .before .before .before .before .before .before .before .before .before .before .before .before .before .before .before .before .before .before .before .args .line) (codesIn (c .before .before .before .before .before .before .before .before .before .before .before .before .before .before .before .before .before .before .before .before .before .before .args .codes .now)) (c .before .before .before .before .before .before .before .before .before .before .before .before .before .before .before .before .before .before .before .before .before .before .args .table .now) (c .before .before .before .before .before .before .before .before .before .before .before .before .before .before .before .before .before .before .before .before .before .before .args .side) (c .before .before .before .before .before .before .before .before .before .before .before .before .before .before .before .before .before .before .before .before .before .before .args .medium) in
-    let z : c .before .before .before .before .before .before .before .before .before .before .before .before .before .before .start-of .result + 2 + c .before .before .before .before .before .before .before .before .before .before .before .before .kept-in .result - (c .before .before .before .before .before .before .before .before .before .before .before .before .before .before .start-of .result + 2) ≡ c .before .before .before .before .before .before .before .before .before .before .before .before .kept-in .result = omega arith in
-    rw (c .before .before .before .before .before .before .before .before .before .before .before .before .before .before .before .before .if1 .taken) (stepped k (c .before .before .before .before .before .before .before .before .before .before .before .before .before .before .before .before .before .before .before .before .before .before .args .memory .now) (c .before .before .before .before .before .before .before .before .before .before .before .before .before .before .before .before .before .before .before .before .before .before .args .octets .now) (right-block (length (c .before .before .before .before .before .before .before .before .before .before .before .before .before .before .before .before .before .before .before .before .before .before .args .codes .now)) (length (c .before .before .before .before .before .before .before .before .before .before .before .before .before .before .before .before .before .before .before .before .before .before .args .memory .now)) (c .before .before .before .before .before .before .before .before .before .before .before .before .before .before .before .before .if1 .taken)) (λ i. c .before .before .before .before .before .before .before .before .before .before .before .before .before .before .before .before .before .before .before .slice-known .given i .fits) (λ i. c .before .before .before .before .before .before .before .before .before .before .before .before .before .before .before .before .before .before .shared-slice-known3 .given i .fits) (c .before .before .before .before .before .before .before .before .before .before .before .before .before .before .start-of .ensures .0) (c .before .before .before .before .before .before .before .before .before .before .before .before .kept-in .ensures .0) (rw (c .before .before .before .before .before .before .before .before .before .before .before .before .before .before .before .codes-in .ensures, z) at (c .before .before .before .before .before .before .before .before .hand-on .ensures)) (c .before .before .before .remember-if .ensures) (c .of-outcome .ensures))
+    let remember-if = c .before .before .before .remember-if in
+    let back = c .before .before .before .before .before .before in
+    let hand-on = back .before .before .before .hand-on in
+    let further = back .before .before .before .before .before .before in
+    let kept-in = further .before .kept-in in
+    let start-of = further .before .before .before .start-of in
+    let codes-in = further .before .before .before .before .codes-in in
+    let setting-in = further .before .before .before .before .before .setting-in in
+    let if1 = further .before .before .before .before .before .before .if1 in
+    let furthest = further .before .before .before .before .before .before in
+    let slice-known = furthest .before .before .before .slice-known in
+    let begun = furthest .before .before .before .before .before .before in
+    let a = begun .args in
+    let k = couplerSet (a .settings .now) (a .side) (a .table .now) in
+    let size = right-block (length (a .settings .now)) (length (a .memory .now)) (if1 .taken) in
+    let from = start-of .result + 2 in
+    let held : from + kept-in .result - from ≡ kept-in .result = omega arith in
+    let handed = rw (setting-in .ensures, codes-in .ensures, held) at (hand-on .ensures) in
+    let kept = rw (setting-in .ensures) at (remember-if .ensures) in
+    rw (if1 .taken) (stepped k (a .memory .now) (a .octets .now) size (λ i. slice-known .given i .fits) (λ i. furthest .before .before .shared-slice-known3 .given i .fits) (start-of .ensures .0) (kept-in .ensures .0) handed kept (c .of-outcome .ensures))
 
 returns-2 : tie.Need-returns-2
 returns-2 c =
@@ -28,6 +49,7 @@ pub klumdray-step-spec : {M : Type 1} → statement M
 klumdray-step-spec =
     tie.close
     (tie.spec
+    (λ c κs. search needs)
     (λ c κs. search needs)
     (λ c κs. search needs)
     (λ c. search needs)
