@@ -4,6 +4,7 @@ use crate::text;
 use coupler::Acknowledgement;
 use coupler::Memory;
 use coupler::Outcome;
+use coupler::Setting;
 
 fn codes_of(setting: &[u8]) -> [[u8; 4]; 2] {
     let down = [
@@ -66,13 +67,21 @@ fn put_outcome(outcome: Outcome, room: &[u8]) {
 }
 
 // One step, written if it is the row's last.
-fn run_frame(memory: Memory, setting: &[u8], table: &[u8], given: &[u8], last: bool) -> Memory {
-    let line = octets::octet(setting, 0);
-    let codes = codes_of(setting);
-    let side = octets::octet(setting, 9);
-    let medium = octets::octet(setting, 10);
+fn run_frame(
+    memory: Memory,
+    given_setting: &[u8],
+    table: &[u8],
+    given: &[u8],
+    last: bool,
+) -> Memory {
+    let codes = codes_of(given_setting);
+    let setting = Setting {
+        line: octets::octet(given_setting, 0),
+        side: octets::octet(given_setting, 9),
+        medium: octets::octet(given_setting, 10),
+    };
     let mut room = [0u8; 272];
-    let stepped = coupler::step(memory, line, codes, table, side, medium, given, &mut room);
+    let stepped = coupler::step(memory, setting, codes, table, given, &mut room);
     if last {
         let outcome = stepped.outcome;
         put_outcome(outcome, &room);
