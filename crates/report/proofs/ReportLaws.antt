@@ -5,52 +5,30 @@ use mathlib.Core.List.{List, [], _∷_, _++_}
 use mathlib.Core.Logic.{_↔_}
 use mathlib.Core.Path.{_≡_, refl, sym, ap, _∙_, subst}
 use native.Mathlib.Omega.{arith}
-use lib.ListN.{length, take, drop, length-append, length-drop}
+use lib.ListN.{length, take, drop, replicate, length-append, length-drop}
 use lib.Seq.{take-at}
 use borrow.Author.Tests.{ltb-true, lt-ltb, le-ltb}
+use Rattle.frame.proofs.Numbers.{number-listed}
 use Rattle.frame.specs.Order.{firstOf, answerBy, _gives_}
 use Rattle.frame.specs.declared.Verdict.the-variants.{Fine, Refuse}
 use Rattle.frame.specs.declared.Verdict.{Verdict}
-use Rattle.frame.specs.Refusals.{number}
-use Rattle.frame.specs.declared.Refusal.the-variants.{TooFew, NotData, OtherFormat, Escape, LeftOver, WrongCheck, OtherCode, InformationEscape, LongStandard, OtherHeader, OtherService, OtherLength, SmallRoom, OutOfRange, WrongSetting, WrongRecord, LineTwice, NoTable}
-use Rattle.frame.specs.declared.Refusal.{Refusal}
+use Rattle.frame.specs.declared.Refusal.the-variants.{SmallRoom}
 use Rattle.frame.specs.declared.Written.the-variants.{Refused, Put}
 use Rattle.frame.specs.declared.Written.{Written}
 use Rattle.octets.proofs.Room.{laid-front}
 use Rattle.octets.proofs.Split.{rest-is}
-use Rattle.octets.specs.Octets.{octetAt, Octets}
+use Rattle.octets.specs.Octets.{Octets}
 use Rattle.octets.specs.Room.{over}
-use Rattle.octets.specs.Word.{wordAt}
 use Rattle.report.proofs.Size.{length-told-line, length-list}
 use Rattle.report.specs.Ascii.{ascii}
 use Rattle.report.specs.Report.{queryIn, siteIn, noStores, queryTests, answerText, reportOf, reported, Reported}
 use Rattle.report.specs.Text.{toldLine, listText}
 use Rattle.report.specs.Stages.{Fits, Puts}
 use Rattle.tracer.proofs.ListLaws.{trace-three-each}
-use Rattle.tracer.specs.Listing.{Query, queryOf, listed}
+use Rattle.tracer.specs.Listing.{listed}
 use Rattle.tracer.specs.Tracing.{tracedBy, listBy, DidTrace}
+use Rattle.tracer.specs.declared.Query.{Query}
 use Rattle.tracer.specs.declared.Traced.{Traced}
-
--- every refusal has a number of its own, and none is 0
-number-some : (r : Refusal) → 1 ≤ number r
-number-some TooFew = omega arith
-number-some NotData = omega arith
-number-some OtherFormat = omega arith
-number-some Escape = omega arith
-number-some LeftOver = omega arith
-number-some WrongCheck = omega arith
-number-some OtherCode = omega arith
-number-some InformationEscape = omega arith
-number-some LongStandard = omega arith
-number-some OtherHeader = omega arith
-number-some OtherService = omega arith
-number-some OtherLength = omega arith
-number-some SmallRoom = omega arith
-number-some OutOfRange = omega arith
-number-some WrongSetting = omega arith
-number-some WrongRecord = omega arith
-number-some LineTwice = omega arith
-number-some NoTable = omega arith
 
 -- the room has the longest text
 
@@ -85,25 +63,22 @@ module _ (s : List ℕ) (t : Traced) where
         within = omega arith;
         told = rw (l, take-at L (drop (length L) room) (t .lines * 3) n) (ap (λ (x : Traced). listText L ++ toldLine (ascii "forwardings ") (x .forwardings)) e);
       }
-  listed-text room list (Refuse r) e h l k = absurd (omega (arith, number-some r, ap (λ (x : Traced). x .number) e))
+  listed-text room list (Refuse r) e h l k = absurd (omega (arith, number-listed r .0, ap (λ (x : Traced). x .number) e))
 
 -- the same of the call: the query and the site as they were read, and an array of 768 octets lent
 
-module _ (s room list : List ℕ) (t : Traced) (k : length room ≡ 768) {start kind destination count : ℕ}
-    (a : start ≡ octetAt s 0) (b : kind ≡ octetAt s 1) (c : destination ≡ wordAt s 2) (d : count ≡ octetAt s 4)
-    (x : DidTrace noStores (take (length s - 5) (drop 5 s)) (queryOf start kind destination count) room t list) where
-  did : DidTrace noStores (siteIn s) (queryIn s) room t list
-  did =
-      subst (λ (q : Query). DidTrace noStores (siteIn s) q room t list) (λ i. queryOf (a i) (b i) (c i) (d i))
-      (subst (λ (site : List ℕ). DidTrace noStores site (queryOf start kind destination count) room t list) (rest-is 5 s) x)
+module _ (s : List ℕ) {list : List ℕ} {t : Traced} {q : Query} (e : q ≡ queryIn s)
+    (x : DidTrace noStores (take (length s - 5) (drop 5 s)) q (replicate 768 0) t list) where
+  did : DidTrace noStores (siteIn s) (queryIn s) (replicate 768 0) t list
+  did = rw (e, rest-is 5 s) at x
 
   pub traced-refused : 0 < t .number → toldLine (ascii "refused ") (t .number) ≡ answerText s (firstOf (queryTests s))
   unfolding queryTests
-  traced-refused h = refused-text s t _ (rw k at (did .answered)) h
+  traced-refused h = refused-text s t _ (did .answered) h
 
-  pub traced-listed : t .number ≤ 0 → length list ≡ length room → ListedText s t (firstOf (queryTests s)) list
+  pub traced-listed : t .number ≤ 0 → length list ≡ 768 → ListedText s t (firstOf (queryTests s)) list
   unfolding queryTests
-  traced-listed h l = listed-text s t room list _ (rw k at (did .answered)) h (rw k at (did .left)) l
+  traced-listed h l = listed-text s t (replicate 768 0) list _ (did .answered) h (did .left) l
 
 -- the tests in their order
 

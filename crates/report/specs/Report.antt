@@ -15,8 +15,10 @@ use Rattle.frame.specs.declared.Refusal.the-variants.{TooFew, LeftOver, SmallRo
 use Rattle.frame.specs.declared.Written.{Written}
 use Rattle.frame.specs.declared.Written.the-variants.{Put, Refused}
 use Rattle.site.specs.Stores.{Stores, stores}
-use Rattle.tracer.specs.Listing.{Query, queryOf, listed, forwardings}
+use Rattle.tracer.specs.Listing.{listed, forwardings}
+use Rattle.tracer.specs.Query.{queryOf}
 use Rattle.tracer.specs.Tracing.{traceTests}
+use Rattle.tracer.specs.declared.Query.{Query}
 use Rattle.report.specs.Ascii.{ascii}
 use Rattle.report.specs.Text.{toldLine, listText}
 

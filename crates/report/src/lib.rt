@@ -3,14 +3,16 @@ mod text;
 
 ghost use Prim.Native.Nat.{_≤_};
 ghost use mathlib.Core.List.{_++_};
+ghost use mathlib.Core.Path.{_≡_};
 ghost use lib.ListN.{length};
 ghost use Rattle.frame.specs.Order.{firstOf};
 ghost use Rattle.report.specs.Ascii.{ascii};
 ghost use Rattle.report.specs.Text.{toldLine, listText};
 ghost use Rattle.report.specs.Stages.{Puts};
-ghost use Rattle.report.specs.Report.{queryTests, answerText, reportOf, Reported};
+ghost use Rattle.report.specs.Report.{queryIn, queryTests, answerText, reportOf, Reported};
 use frame::Refusal;
 use frame::Written;
+use tracer::Query;
 
 // "On refusal it writes `refused N`."
 fn put_refused(refused: u8, room: &mut [u8]) -> usize
@@ -28,27 +30,27 @@ fn put_listed(list: &[u8], forwardings: usize, room: &mut [u8]) -> usize
     text::put_told_line(b"forwardings ", forwardings, behind, room)
 }
 
-// "The program reads line, kind, destination (2), count, then records to the end, with empty stores."
+// "The program reads line, kind, destination (2), count"
+fn query_in(input: &[u8]) -> Query
+    ensures { λ r. ⌜ r ≡ queryIn (now (input .entry)) ⌝ }
+{
+    Query {
+        start: octets::octet(input, 0),
+        kind: octets::octet(input, 1),
+        destination: octets::word_at(input, 2),
+        count: octets::octet(input, 4),
+    }
+}
+
+// "then records to the end, with empty stores"
 fn put_trace(input: &[u8], room: &mut [u8]) -> usize
     requires { ⌜ (5 ≤ length (now input)) × (8192 ≤ length (now room)) ⌝ }
     ensures { λ r. ⌜ Puts (answerText (now (input .entry)) (firstOf (queryTests (now (input .entry))))) 0 (now (room .entry)) r (now (room .exit)) ⌝ }
 {
-    let start = octets::octet(input, 0);
-    let kind = octets::octet(input, 1);
-    let destination = octets::word_at(input, 2);
-    let count = octets::octet(input, 4);
+    let query = query_in(input);
     let none = &input[..0];
     let mut list = [0u8; 768];
-    let traced = tracer::trace(
-        start,
-        kind,
-        destination,
-        count,
-        &input[5..],
-        none,
-        none,
-        &mut list,
-    );
+    let traced = tracer::trace(query, &input[5..], none, none, &mut list);
     if 0 < traced.number {
         return put_refused(traced.number, room);
     }
