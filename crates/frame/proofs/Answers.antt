@@ -9,7 +9,7 @@ use native.Mathlib.Omega.{arith}
 use lib.ListN.{getD}
 use Rattle.frame.proofs.Numbers.{number-listed, number-apart}
 use Rattle.frame.specs.Answers.{Numbered, accepted, refused, meaningValues, writtenNumbered, verdictNumbered}
-use Rattle.frame.specs.Refusals.{number}
+use Rattle.frame.specs.Refusals.{number, lastNumber}
 use Rattle.frame.specs.declared.Meaning.{Meaning}
 use Rattle.frame.specs.declared.Refusal.{Refusal}
 use Rattle.frame.specs.declared.Verdict.the-variants.{Fine, Refuse}
@@ -29,8 +29,8 @@ pub record Tells {A : Type 0} (refusal : Refusal → A) (numbered : A → Number
   pub apart : (a b : A) → numbered a ≡ numbered b → a ≡ b
   -- 0 exactly if the answer is no refusal
   pub zero : (a : A) → numbered a .number ≡ 0 ↔ ((r : Refusal) → a ≡ refusal r → ⊥)
-  -- a refusal's number is one of the table's, 1 to 18, and there are no values
-  pub listed : (r : Refusal) → (1 ≤ numbered (refusal r) .number) × (numbered (refusal r) .number ≤ 18)
+  -- a refusal's number is one of the table's, and there are no values
+  pub listed : (r : Refusal) → (1 ≤ numbered (refusal r) .number) × (numbered (refusal r) .number ≤ lastNumber)
   pub none : (r : Refusal) → numbered (refusal r) .values ≡ []
 
 module _ {A Given : Type 0} (answer : Given → A) (refusal : Refusal → A) (values : Given → List ℕ) (numbered : A → Numbered)

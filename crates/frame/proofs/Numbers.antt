@@ -1,85 +1,74 @@
--- The paper's numbers of the refusals: 1 to 18, and no two are the same.
-use Prim.Native.Nat.{ℕ, _≤_}
-use mathlib.Core.Bool.{true, false, cond, _&&_}
+-- The paper's numbers of the refusals: 1 to the last, and no two are the same.
+use Prim.Native.Nat.{ℕ, _-_, _≤_}
+use mathlib.Core.Bool.{true, false, _&&_}
+use mathlib.Core.List.{List, [], _∷_}
 use mathlib.Core.Path.{_≡_, refl, sym, ap, _∙_}
 use native.Mathlib.Omega.{arith}
 use lib.Dec.{leb, eqb}
-use borrow.Author.Tests.{leb-true, ne-eqb}
-use Rattle.frame.specs.Refusals.{number}
+use lib.ListN.{getD}
+use borrow.Author.Tests.{leb-true, eqb-false, ne-eqb}
+use Rattle.frame.specs.Refusals.{number, lastNumber}
 use Rattle.frame.specs.declared.Refusal.the-variants.{TooFew, NotData, OtherFormat, Escape, LeftOver, WrongCheck, OtherCode, InformationEscape, LongStandard, OtherHeader, OtherService, OtherLength, SmallRoom, OutOfRange, WrongSetting, WrongRecord, LineTwice, NoTable}
 use Rattle.frame.specs.declared.Refusal.{Refusal}
 use Rattle.octets.proofs.Below.{and-true}
 
--- the table's numbers are 1 to 18
-is-listed : (r : Refusal) → leb 1 (number r) && leb (number r) 18 ≡ true
-is-listed TooFew = refl
-is-listed NotData = refl
-is-listed OtherFormat = refl
-is-listed Escape = refl
-is-listed LeftOver = refl
-is-listed WrongCheck = refl
-is-listed OtherCode = refl
-is-listed InformationEscape = refl
-is-listed LongStandard = refl
-is-listed OtherHeader = refl
-is-listed OtherService = refl
-is-listed OtherLength = refl
-is-listed SmallRoom = refl
-is-listed OutOfRange = refl
-is-listed WrongSetting = refl
-is-listed WrongRecord = refl
-is-listed LineTwice = refl
-is-listed NoTable = refl
+-- the refusals in the table's order, and the one that has a number
+abbrev rows : List Refusal
+rows =
+    TooFew
+    ∷ NotData
+    ∷ OtherFormat
+    ∷ Escape
+    ∷ LeftOver
+    ∷ WrongCheck
+    ∷ OtherCode
+    ∷ InformationEscape
+    ∷ LongStandard
+    ∷ OtherHeader
+    ∷ OtherService
+    ∷ OtherLength
+    ∷ SmallRoom
+    ∷ OutOfRange
+    ∷ WrongSetting
+    ∷ WrongRecord
+    ∷ LineTwice
+    ∷ NoTable
+    ∷ []
 
-pub number-listed : (r : Refusal) → (1 ≤ number r) × (number r ≤ 18)
-number-listed r = let b = and-true _ _ (is-listed r) in (leb-true 1 (number r) (b .0), leb-true (number r) 18 (b .1))
+abbrev numbered : ℕ → Refusal
+numbered n = getD rows (n - 1) TooFew
+
+-- A number is one of the table's, and is its row's: the one law here with a line for each refusal.
+row : (r : Refusal) → (leb 1 (number r) && leb (number r) lastNumber ≡ true) × (numbered (number r) ≡ r)
+row TooFew = (refl, refl)
+row NotData = (refl, refl)
+row OtherFormat = (refl, refl)
+row Escape = (refl, refl)
+row LeftOver = (refl, refl)
+row WrongCheck = (refl, refl)
+row OtherCode = (refl, refl)
+row InformationEscape = (refl, refl)
+row LongStandard = (refl, refl)
+row OtherHeader = (refl, refl)
+row OtherService = (refl, refl)
+row OtherLength = (refl, refl)
+row SmallRoom = (refl, refl)
+row OutOfRange = (refl, refl)
+row WrongSetting = (refl, refl)
+row WrongRecord = (refl, refl)
+row LineTwice = (refl, refl)
+row NoTable = (refl, refl)
+
+pub number-listed : (r : Refusal) → (1 ≤ number r) × (number r ≤ lastNumber)
+number-listed r = let b = and-true _ _ (row r .0) in (leb-true 1 (number r) (b .0), leb-true (number r) lastNumber (b .1))
 
 -- a refusal's number is not 0
 pub refused-number : (r : Refusal) → eqb (number r) 0 ≡ false
 refused-number r = ne-eqb (number r) 0 (λ e. omega (arith, number-listed r .0))
 
--- the refusal that has a number
-abbrev numbered : ℕ → Refusal
-numbered n =
-    cond (eqb n 1) TooFew
-    (cond (eqb n 2) NotData
-    (cond (eqb n 3) OtherFormat
-    (cond (eqb n 4) Escape
-    (cond (eqb n 5) LeftOver
-    (cond (eqb n 6) WrongCheck
-    (cond (eqb n 7) OtherCode
-    (cond (eqb n 8) InformationEscape
-    (cond (eqb n 9) LongStandard
-    (cond (eqb n 10) OtherHeader
-    (cond (eqb n 11) OtherService
-    (cond (eqb n 12) OtherLength
-    (cond (eqb n 13) SmallRoom
-    (cond (eqb n 14) OutOfRange
-    (cond (eqb n 15) WrongSetting
-    (cond (eqb n 16) WrongRecord
-    (cond (eqb n 17) LineTwice
-    NoTable))))))))))))))))
-
-numbered-back : (r : Refusal) → numbered (number r) ≡ r
-numbered-back TooFew = refl
-numbered-back NotData = refl
-numbered-back OtherFormat = refl
-numbered-back Escape = refl
-numbered-back LeftOver = refl
-numbered-back WrongCheck = refl
-numbered-back OtherCode = refl
-numbered-back InformationEscape = refl
-numbered-back LongStandard = refl
-numbered-back OtherHeader = refl
-numbered-back OtherService = refl
-numbered-back OtherLength = refl
-numbered-back SmallRoom = refl
-numbered-back OutOfRange = refl
-numbered-back WrongSetting = refl
-numbered-back WrongRecord = refl
-numbered-back LineTwice = refl
-numbered-back NoTable = refl
+pub number-some : (r : Refusal) → number r ≡ 0 → ⊥
+number-some r = eqb-false (number r) 0 (refused-number r)
 
 -- the paper's numbers tell the refusals apart
 pub number-apart : (q r : Refusal) → number q ≡ number r → q ≡ r
-number-apart q r e = sym (numbered-back q) ∙ ap numbered e ∙ numbered-back r
+number-apart q r e = sym (row q .1) ∙ ap numbered e ∙ row r .1

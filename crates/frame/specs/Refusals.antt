@@ -1,4 +1,5 @@
--- Document 01, "Refusal numbers": the table. 0 is not a refusal.
+-- Document 01, "Refusal numbers": the table. 0 is not a refusal. tools/make-surface writes that of the C header and of the Rust bindings
+-- from it: a row is its words and then its number.
 use Prim.Native.Nat.{ℕ}
 use Rattle.frame.specs.declared.Refusal.{Refusal}
 use Rattle.frame.specs.declared.Refusal.the-variants.{TooFew, NotData, OtherFormat, Escape, LeftOver, WrongCheck, OtherCode, InformationEscape, LongStandard, OtherHeader, OtherService, OtherLength, SmallRoom, OutOfRange, WrongSetting, WrongRecord, LineTwice, NoTable}
@@ -40,3 +41,7 @@ number WrongRecord = 16
 number LineTwice = 17
 -- filter table missing or of wrong size
 number NoTable = 18
+
+-- the table's last number
+abbrev pub lastNumber : ℕ
+lastNumber = 18

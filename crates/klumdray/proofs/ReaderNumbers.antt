@@ -16,7 +16,7 @@ use Rattle.cemi.specs.declared.CemiAnswer.{CemiAnswer}
 use Rattle.cemi.specs.declared.Codes.{Codes}
 use Rattle.cemi.specs.declared.Codes.the-variants.{All, IndicationOnly}
 use Rattle.cemi.specs.declared.Message.{Message}
-use Rattle.frame.proofs.Numbers.{refused-number}
+use Rattle.frame.proofs.Numbers.{number-listed, number-some, refused-number}
 use Rattle.frame.proofs.Valid.{Ranges, ranges-of, most-payload}
 use Rattle.frame.specs.Answers.{meaningValues}
 use Rattle.frame.specs.Refusals.{number}
@@ -25,7 +25,7 @@ use Rattle.frame.specs.declared.Meaning.{Meaning}
 use Rattle.frame.specs.declared.Refusal.{Refusal}
 use Rattle.klumdray.proofs.Bits.{bit-fits, weighs, Field, _holding_, packed, Fit, widthAt, valueAt, bitAt, read-back, below}
 use Rattle.klumdray.proofs.Surface.{code-most}
-use Rattle.klumdray.proofs.Telling.{number-most, number-some, number-alone, tells-refused, tells-accepted}
+use Rattle.klumdray.proofs.Telling.{number-alone, tells-refused, tells-accepted}
 use Rattle.klumdray.specs.Decoding.{bits, numberIn, meaningValuesIn, payloadLengthIn, codeNumberIn, messageCodeIn, errorMarkIn, tp1From, cemiFrom, TellsReading}
 use Rattle.klumdray.specs.Numbers.{flagsOf, meaningNumber, tp1Number, codeNumber, messageNumber, cemiNumber, tp1Answered, cemiAnswered, routingAnswered}
 use Rattle.octets.proofs.Octets.{octets-drop}
@@ -112,7 +112,7 @@ tp1-answer (Frame m) p v none =
     }
 tp1-answer (Refused q) p v none = record {
   told = tells-refused q refl refl (tp1-apart q) (omega arith) (rw (number-alone q, refused-number q));
-  size = rw (none q refl) (omega (arith, number-most q));
+  size = rw (none q refl) (omega (arith, number-listed q .1));
   some = λ z. absurd (number-some q (sym (number-alone q) ∙ z));
 }
 
@@ -188,7 +188,7 @@ cemi-answer codes (Message-is x) p v none =
     }
 cemi-answer codes (Message-not q) p v none = record {
   told = tells-refused q refl refl (cemi-apart q) (omega arith) (rw (number-alone q, refused-number q));
-  size = rw (none q refl) (omega (arith, number-most q));
+  size = rw (none q refl) (omega (arith, number-listed q .1));
   some = λ z. absurd (number-some q (sym (number-alone q) ∙ z));
 }
 

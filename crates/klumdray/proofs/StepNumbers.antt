@@ -13,13 +13,14 @@ use Rattle.coupler.specs.declared.Acknowledgement.{Acknowledgement}
 use Rattle.coupler.specs.declared.Acknowledgement.the-variants.{Silence, Acknowledged}
 use Rattle.coupler.specs.declared.Outcome.{Outcome}
 use Rattle.coupler.specs.declared.Setting.{Setting}
+use Rattle.frame.proofs.Numbers.{number-listed}
 use Rattle.frame.proofs.Valid.{most-payload}
-use Rattle.frame.specs.Refusals.{number}
+use Rattle.frame.specs.Refusals.{number, lastNumber}
 use Rattle.frame.specs.declared.Meaning.{Meaning}
 use Rattle.frame.specs.declared.Refusal.{Refusal}
 use Rattle.frame.specs.declared.Refusal.the-variants.{OutOfRange}
 use Rattle.klumdray.proofs.Bits.{bit-fits, Field, _holding_, packed, Fit, read-back, below}
-use Rattle.klumdray.proofs.Telling.{number-most, tells-refused, tells-accepted}
+use Rattle.klumdray.proofs.Telling.{tells-refused, tells-accepted}
 use Rattle.klumdray.specs.Block.{memoryIn, outcomeNumber, heardThrough, SteppedThrough}
 use Rattle.klumdray.specs.Decoding.{bits, numberIn, outcomeNumbered, outcomeFrom, forwardedIn, Tells}
 use Rattle.octets.specs.Octets.{Octets, weigh}
@@ -39,7 +40,7 @@ acknowledgement-fits : (a : Acknowledgement) → acknowledgementNumber a < 256
 acknowledgement-fits Silence = omega arith
 acknowledgement-fits Acknowledged = omega arith
 
-module _ (o : Outcome) (n : o .number ≤ 18) (h : o .forwarded ≤ 270) where
+module _ (o : Outcome) (n : o .number ≤ lastNumber) (h : o .forwarded ≤ 270) where
   outcome-fit : Fit (outcomeFields o)
   unfolding outcomeFields
   outcome-fit = (omega arith, (acknowledgement-fits (o .acknowledgement), (bit-fits (o .own), (omega arith, (omega arith, tt)))))
@@ -94,9 +95,9 @@ heard-refused m p r e = let z : _≡_ {A = ℕ} 0 1 = cc in absurd (omega arith)
 heard-apart : (q r : Refusal) → nothing q ≡ nothing r → q ≡ r
 heard-apart q r e = cc
 
-numbered-most : (k : Coupler) (remembered s : List ℕ) (h : Heard) → outcomeBy k remembered s h .number ≤ 18
+numbered-most : (k : Coupler) (remembered s : List ℕ) (h : Heard) → outcomeBy k remembered s h .number ≤ lastNumber
 numbered-most k remembered s (frame m p) = omega arith
-numbered-most k remembered s (nothing q) = number-most q
+numbered-most k remembered s (nothing q) = number-listed q .1
 
 outcome-answer : (k : Coupler) (remembered s : List ℕ) (h : Heard) → outcomeBy k remembered s h .forwarded ≤ 270
     → Tells 64 outcomeFrom (outcomeNumber (outcomeBy k remembered s h)) (outcomeNumbered (outcomeBy k remembered s h)) (λ r. h ≡ nothing r)
@@ -106,7 +107,7 @@ outcome-answer k remembered s (frame m p) h =
     tells-accepted (outcome-number o (omega arith) h) (heard-refused m p) (outcome-fits o (omega arith) h) (outcome-decoded o (omega arith) h)
 outcome-answer k remembered s (nothing q) h =
     let e : outcomeNumber (refusedOutcome k s q) ≡ number q = omega arith in
-    tells-refused q e refl (heard-apart q) (omega arith) (ap outcomeFrom (sym e) ∙ outcome-decoded (refusedOutcome k s q) (number-most q) h)
+    tells-refused q e refl (heard-apart q) (omega arith) (ap outcomeFrom (sym e) ∙ outcome-decoded (refusedOutcome k s q) (number-listed q .1) h)
 
 -- the same through the surface
 module _ {right : Bool} {k : Coupler} {block s room : List ℕ} {answer : ℕ} {block′ room′ : List ℕ} (os : Octets s) (w : SteppedThrough right k block s room answer block′ room′) where

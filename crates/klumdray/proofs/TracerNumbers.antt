@@ -13,16 +13,16 @@ use Rattle.passing.specs.Answers.{passageNumber}
 use Rattle.passing.specs.Passing.{doesPass}
 use Rattle.passing.specs.declared.Passage.{Passage}
 use Rattle.passing.specs.declared.Passage.the-variants.{Passes, NotFitted, OwnAddress, Closed, NotBelow, NotAbove, NotInTable, UsedUp}
-use Rattle.frame.proofs.Numbers.{refused-number}
+use Rattle.frame.proofs.Numbers.{number-listed, refused-number}
 use Rattle.frame.proofs.Order.{passed-iff}
 use Rattle.frame.specs.Answers.{Numbered}
 use Rattle.frame.specs.Order.{firstOf, answerBy}
 use Rattle.frame.specs.declared.Verdict.the-variants.{Fine, Refuse}
 use Rattle.frame.specs.declared.Verdict.{Verdict}
-use Rattle.frame.specs.Refusals.{number}
+use Rattle.frame.specs.Refusals.{number, lastNumber}
 use Rattle.frame.specs.declared.Refusal.{Refusal}
 use Rattle.klumdray.proofs.Bits.{Field, _holding_, packed, Fit, read-back, below}
-use Rattle.klumdray.proofs.Telling.{number-most, number-alone, tells-refused, tells-accepted}
+use Rattle.klumdray.proofs.Telling.{number-alone, tells-refused, tells-accepted}
 use Rattle.klumdray.specs.Decoding.{numberIn, linesIn, forwardingsIn, tracedNumbered, tracedFrom, explanationFrom, Tells}
 use Rattle.klumdray.specs.Traces.{tracedNumber, explanationNumber, TracedThrough}
 use Rattle.octets.proofs.Below.{and-true}
@@ -78,7 +78,7 @@ module _ (st : Stores) (site : List ℕ) (q : Query) where
 tracedFields : Traced → List Field
 tracedFields t = 8 holding t .number ∷ 16 holding t .lines ∷ 16 holding t .forwardings ∷ []
 
-module _ (t : Traced) (n : t .number ≤ 18) (l : t .lines ≤ 256) (f : t .forwardings ≤ 510) where
+module _ (t : Traced) (n : t .number ≤ lastNumber) (l : t .lines ≤ 256) (f : t .forwardings ≤ 510) where
   traced-fit : Fit (tracedFields t)
   unfolding tracedFields
   traced-fit = (omega arith, (omega arith, (omega arith, tt)))
@@ -112,7 +112,7 @@ module _ (st : Stores) (site : List ℕ) (q : Query) where
   traced-answer (Refuse r) =
       let t : Traced = tracedBy st site q (Refuse r) in
       let e : tracedNumber t ≡ number r = omega arith in
-      tells-refused r e refl (verdict-apart r) (omega arith) (ap tracedFrom (sym e) ∙ traced-decoded t (number-most r) (omega arith) (omega arith))
+      tells-refused r e refl (verdict-apart r) (omega arith) (ap tracedFrom (sym e) ∙ traced-decoded t (number-listed r .1) (omega arith) (omega arith))
 
   module _ {room : List ℕ} {answer : ℕ} {room′ : List ℕ} (w : TracedThrough st site q room answer room′) where
     pub trace-told : Tells 40 tracedFrom answer (tracedNumbered (tracedBy st site q (firstOf (traceTests st site q (length room))))) (λ r. firstOf (traceTests st site q (length room)) ≡ Refuse r)

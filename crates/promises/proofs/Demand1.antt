@@ -7,18 +7,17 @@ use mathlib.Core.Bool.{Bool}
 use mathlib.Core.List.{List, [], _∷_, _++_}
 use mathlib.Core.Path.{_≡_, refl, ap, _∙_}
 use lib.ListN.{length, drop}
-use borrow.Author.Tests.{eqb-false}
 use Rattle.cemi.specs.Answers.{messageValues, cemiNumbered}
 use Rattle.cemi.specs.Reading.{body, messageIn, cemiTests, readCemi, payloadIn, informationIn}
 use Rattle.cemi.specs.declared.Codes.{Codes}
 use Rattle.coupler.specs.Answers.{judgedNumbered}
 use Rattle.coupler.specs.Step.{judgedBy}
-use Rattle.frame.proofs.Numbers.{number-listed, refused-number, number-apart}
+use Rattle.frame.proofs.Numbers.{number-listed, number-some, number-apart}
 use Rattle.frame.specs.Answers.{Numbered, accepted, refused, meaningValues, writtenNumbered}
 use Rattle.frame.specs.Order.{Test, firstOf, answerBy}
 use Rattle.frame.specs.declared.Verdict.the-variants.{Fine, Refuse}
 use Rattle.frame.specs.declared.Verdict.{Verdict}
-use Rattle.frame.specs.Refusals.{number}
+use Rattle.frame.specs.Refusals.{number, lastNumber}
 use Rattle.frame.specs.Writing.{writeTests, written, Wrote}
 use Rattle.frame.specs.declared.Refusal.{Refusal}
 use Rattle.frame.specs.declared.Written.{Written}
@@ -44,15 +43,15 @@ use Rattle.routing.specs.declared.Header.the-variants.{Right, Wrong}
 use Rattle.tracer.specs.declared.Explanation.the-variants.{Refused as Unexplained}
 use Rattle.promises.proofs.Ends.{Ends, EndsNumbered, ends-by}
 
--- the numbers of refusals are 1 to 18, each stands for one, and 0 for none
-pub numbers-listed : (r : Refusal) → (1 ≤ number r) × (number r ≤ 18)
+-- the numbers of refusals are 1 to the table's last, each stands for one, and 0 for none
+pub numbers-listed : (r : Refusal) → (1 ≤ number r) × (number r ≤ lastNumber)
 numbers-listed = number-listed
 
 pub numbers-apart : (q r : Refusal) → number q ≡ number r → q ≡ r
 numbers-apart = number-apart
 
 pub zero-is-none : (r : Refusal) → number r ≡ 0 → ⊥
-zero-is-none r = eqb-false (number r) 0 (refused-number r)
+zero-is-none = number-some
 
 -- the readers: whatever the octets are
 

@@ -10,11 +10,11 @@ use native.Mathlib.Nat.{sub-zero}
 use native.Mathlib.Omega.{arith}
 use lib.Dec.{eqb, leb}
 use lib.ListN.{length, take, drop}
-use borrow.Author.Tests.{leb-true, eqb-true, eqb-false, le-ltb}
+use borrow.Author.Tests.{leb-true, eqb-true, le-ltb}
 use Rattle.coupler.specs.Answers.{passageNumber}
 use Rattle.coupler.specs.Passing.{doesPass}
 use Rattle.coupler.specs.declared.Passage.{Passage}
-use Rattle.frame.proofs.Numbers.{refused-number}
+use Rattle.frame.proofs.Numbers.{number-some}
 use Rattle.frame.proofs.Order.{passed-iff}
 use Rattle.frame.specs.Answers.{Numbered, accepted}
 use Rattle.frame.specs.Order.{firstOf, answerBy, NoneOf}
@@ -168,7 +168,7 @@ explained st site q w a line = ap (answerBy Refused (whyOf st site q line)) (pas
 no-values : (x : Explanation) → explanationNumbered x ≡ accepted [] → x ≡ Reached
 no-values Reached e = refl
 no-values (NotReached stop) e = absurd (omega (arith, ap (λ (n : Numbered). length (n .values)) e))
-no-values (Refused r) e = absurd (eqb-false (number r) 0 (refused-number r) (ap (λ (n : Numbered). n .number) e))
+no-values (Refused r) e = absurd (number-some r (ap (λ (n : Numbered). n .number) e))
 
 count-most : (q : Query) → isQuery q ≡ true → q .count ≤ 7
 count-most q a = leb-true (q .count) 7 (and-true (leb (q .kind) 1) (leb (q .count) 7) a .1)

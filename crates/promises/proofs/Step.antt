@@ -21,7 +21,7 @@ use Rattle.coupler.specs.Step.{Setting, stepTests, fromIp, toIp, Heard, frame, 
 use Rattle.coupler.specs.declared.Acknowledgement.the-variants.{Silence, Acknowledged}
 use Rattle.coupler.specs.declared.Memory.{Memory}
 use Rattle.coupler.specs.declared.Outcome.{Outcome}
-use Rattle.frame.proofs.Numbers.{refused-number}
+use Rattle.frame.proofs.Numbers.{number-some}
 use Rattle.frame.specs.Order.{FirstIs}
 use Rattle.frame.specs.Refusals.{number}
 use Rattle.frame.specs.Valid.{Valid}
@@ -236,7 +236,7 @@ module _ (k : Setting) (m m′ : Memory) (s room room′ : List ℕ) (o : Outcom
     where
       to : (h : Heard) → heard k s (length room) ≡ h → o .number ≡ 0 → HearsOne k s (length room) (λ x. Unit {0})
       to (frame x p) e z = record { meaning = x; payload = p; hears = hears-iff k s (length room) x p c .0 e; has = tt }
-      to (nothing r) e z = absurd (eqb-false (number r) 0 (refused-number r) (sym (ap (λ (u : Outcome). u .number) (outcome-of _ e)) ∙ z))
+      to (nothing r) e z = absurd (number-some r (sym (ap (λ (u : Outcome). u .number) (outcome-of _ e)) ∙ z))
 
   pub refuses-exactly : (r : Refusal) → o .number ≡ number r ↔ FirstIs (stepTests k s (length room)) r
   refuses-exactly r = (

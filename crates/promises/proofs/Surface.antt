@@ -19,10 +19,11 @@ use Rattle.coupler.specs.Memory.{recalled, sideOf}
 use Rattle.coupler.specs.Step.{Setting, Heard, Did, outcomeOf, fromIp, nothing}
 use Rattle.coupler.specs.declared.Memory.{Memory}
 use Rattle.coupler.specs.declared.Outcome.{Outcome}
+use Rattle.frame.proofs.Numbers.{number-listed}
 use Rattle.frame.specs.Answers.{Numbered, writtenNumbered}
 use Rattle.frame.specs.Order.{firstOf}
 use Rattle.frame.specs.declared.Verdict.the-variants.{Refuse}
-use Rattle.frame.specs.Refusals.{number}
+use Rattle.frame.specs.Refusals.{number, lastNumber}
 use Rattle.frame.specs.Valid.{inRange}
 use Rattle.frame.specs.Writing.{written}
 use Rattle.frame.specs.declared.Meaning.{Meaning}
@@ -33,7 +34,7 @@ use Rattle.klumdray.proofs.Parts.{tp1-payload, cemi-parts, routing-parts}
 use Rattle.klumdray.proofs.ReaderNumbers.{tp1-tells, cemi-tells, routing-tells}
 use Rattle.klumdray.proofs.Remembered.{remembered-is, remembered-within, step-remembers, step-recalls, step-leaves, step-from-ip}
 use Rattle.klumdray.proofs.StepNumbers.{step-told, step-between, step-most}
-use Rattle.klumdray.proofs.Telling.{number-most, number-some, tells-one}
+use Rattle.klumdray.proofs.Telling.{tells-one}
 use Rattle.klumdray.proofs.TracerNumbers.{trace-told, trace-lines, trace-leaves, why-told, why-reached}
 use Rattle.klumdray.proofs.WriterNumbers.{written-told, written-size, written-leaves, tp1-most, cemi-most, routing-most}
 use Rattle.klumdray.specs.Block.{memoryIn, lentRight, heardThrough, SteppedThrough}
@@ -63,9 +64,9 @@ use Rattle.klumdray.proofs.StepNumbers.{at-most-270 as forwarded-most}
 use Rattle.tp1.specs.declared.Tp1Answer.the-variants.{Refused as Tp1-refused}
 use Rattle.tracer.specs.declared.Explanation.the-variants.{Refused as Unexplained}
 
--- "Every answer but that of klumdray_check_octet .. carries a number": 1 to 18 with a refusal
-pub refusals-at-most-18 : (r : Refusal) → (1 ≤ number r) × (number r ≤ 18)
-refusals-at-most-18 r = (let n : number r ≡ 0 → ⊥ = number-some r in omega (arith, n), number-most r)
+-- "Every answer but that of klumdray_check_octet .. carries a number": with a refusal one of the table's
+pub refusals-listed : (r : Refusal) → (1 ≤ number r) × (number r ≤ lastNumber)
+refusals-listed = number-listed
 
 -- "A reader's answer is one number of 64 bits. With a refusal every bit above 7 is 0."
 module _ (s : List ℕ) (o : Octets s) where
