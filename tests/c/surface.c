@@ -105,8 +105,7 @@ static void words(void)
     check("0 in words", strcmp(klumdray_words(0), "not a refusal") == 0);
     check("6 in words", strcmp(klumdray_words(6), "wrong check octet") == 0);
     check("18 in words", strcmp(klumdray_words(18), "filter table missing or of wrong size") == 0);
-    check("19 is no number", strcmp(klumdray_words(19), "not a number of these calls") == 0);
-    check("nor is 255", strcmp(klumdray_words(255), "not a number of these calls") == 0);
+    check("255 is no number", strcmp(klumdray_words(255), "not a number of these calls") == 0);
 }
 
 static void written(void)

@@ -11,32 +11,9 @@ typedef __UINT32_TYPE__ uint32_t;
 typedef __UINT64_TYPE__ uint64_t;
 typedef __SIZE_TYPE__ size_t;
 
-uint8_t klumdray_check_octet(const uint8_t *octets, size_t n);
-uint64_t klumdray_tp1_read(const uint8_t *octets, size_t n);
-uint64_t klumdray_tp1_write(uint8_t extended, uint8_t first_sending, uint8_t priority,
-                            uint16_t source, uint8_t group, uint16_t destination, uint8_t count,
-                            const uint8_t *payload, size_t n, uint8_t *room, size_t m);
-uint64_t klumdray_cemi_read(const uint8_t *octets, size_t n);
-uint64_t klumdray_cemi_write(uint8_t code, uint8_t error_mark, uint8_t extended,
-                             uint8_t first_sending, uint8_t priority, uint16_t source,
-                             uint8_t group, uint16_t destination, uint8_t count,
-                             const uint8_t *payload, size_t n, uint8_t *room, size_t m);
-uint64_t klumdray_routing_read(const uint8_t *octets, size_t n);
-uint64_t klumdray_routing_write(uint8_t code, uint8_t error_mark, uint8_t extended,
-                                uint8_t first_sending, uint8_t priority, uint16_t source,
-                                uint8_t group, uint16_t destination, uint8_t count,
-                                const uint8_t *payload, size_t n, uint8_t *room, size_t m);
-uint64_t klumdray_step(uint8_t line, const uint8_t *codes, size_t codes_length,
-                       const uint8_t *table, size_t table_length, uint8_t side, uint8_t medium,
-                       uint8_t *memory, size_t memory_length, const uint8_t *octets, size_t length,
-                       uint8_t *room, size_t room_length);
-uint64_t klumdray_trace(uint8_t start, uint8_t kind, uint16_t destination, uint8_t count,
-                        const uint8_t *site, size_t site_length, const uint8_t *project,
-                        size_t project_length, const uint8_t *own, size_t own_length,
-                        uint8_t *room, size_t room_length);
-uint32_t klumdray_why(uint8_t start, uint8_t kind, uint16_t destination, uint8_t count,
-                      const uint8_t *site, size_t site_length, const uint8_t *project,
-                      size_t project_length, const uint8_t *own, size_t own_length, uint8_t line);
+#define CALL(answer, name, parameters, arguments) answer name parameters;
+#include "calls.h"
+#undef CALL
 
 __asm__(".globl _start\n_start:\n xorl %ebp, %ebp\n andq $-16, %rsp\n call serve\n");
 
@@ -91,91 +68,40 @@ int bcmp(const void *a, const void *b, size_t n)
 }
 
 static uint8_t request[sizeof(struct head) + MOST_REQUEST];
-static uint8_t answer[sizeof(uint64_t) + MOST_OCTETS];
-static uint8_t table[MOST_TABLE], project[MOST_STORE], own[MOST_STORE];
+static uint8_t answer[sizeof(uint64_t) + MOST_ROOMS];
+static uint8_t kept[MOST_ARGUMENTS][MOST_KEPT];
 
-/* Where a request's parts stand, or null. */
-struct lent {
-    const uint8_t *octets, *codes, *table, *project, *own;
-    uint8_t *memory, *room;
+/* An argument: its number, or its octets and how many they are. */
+struct given {
+    uint64_t number;
+    uint8_t *octets;
 };
 
-static uint64_t do_step(const struct head *h, struct lent lent)
-{
-    return klumdray_step(h->line, lent.codes, h->codes, lent.table, h->table, h->side, h->medium,
-                         lent.memory, h->memory, lent.octets, h->octets, lent.room, h->room);
-}
+#define NUMBER(place, name) given[place].number
+#define OCTETS(place, name, size) given[place].octets, given[place].number
+#define ROOM(place, name, size) OCTETS(place, name, size)
+#define CALL(answer, name, parameters, arguments) \
+    case CALL_##name:                             \
+        return name arguments;
 
-static uint64_t do_trace(const struct head *h, struct lent lent)
+static uint64_t do_call(uint64_t call, const struct given *given)
 {
-    return klumdray_trace(h->start, h->kind, h->destination, h->count, lent.octets, h->octets,
-                          lent.project, h->project, lent.own, h->own, lent.room, h->room);
-}
-
-static uint64_t do_why(const struct head *h, struct lent lent)
-{
-    return klumdray_why(h->start, h->kind, h->destination, h->count, lent.octets, h->octets,
-                        lent.project, h->project, lent.own, h->own, h->line);
-}
-
-static uint64_t do_call(const struct head *h, struct lent lent)
-{
-    const uint8_t *octets = lent.octets;
-    uint8_t *room = lent.room;
-    switch (h->call) {
-    case CALL_CHECK_OCTET:
-        return klumdray_check_octet(octets, h->octets);
-    case CALL_TP1_READ:
-        return klumdray_tp1_read(octets, h->octets);
-    case CALL_TP1_WRITE:
-        return klumdray_tp1_write(h->extended, h->first_sending, h->priority, h->source, h->group,
-                                  h->destination, h->count, octets, h->octets, room, h->room);
-    case CALL_CEMI_READ:
-        return klumdray_cemi_read(octets, h->octets);
-    case CALL_CEMI_WRITE:
-        return klumdray_cemi_write(h->code, h->error_mark, h->extended, h->first_sending,
-                                   h->priority, h->source, h->group, h->destination, h->count,
-                                   octets, h->octets, room, h->room);
-    case CALL_ROUTING_READ:
-        return klumdray_routing_read(octets, h->octets);
-    case CALL_ROUTING_WRITE:
-        return klumdray_routing_write(h->code, h->error_mark, h->extended, h->first_sending,
-                                      h->priority, h->source, h->group, h->destination, h->count,
-                                      octets, h->octets, room, h->room);
-    case CALL_STEP:
-        return do_step(h, lent);
-    case CALL_TRACE:
-        return do_trace(h, lent);
-    case CALL_WHY:
-        return do_why(h, lent);
+    switch (call) {
+#include "calls.h"
     default:
         kernel(EXIT, 2, 0, 0);
         return 0;
     }
 }
 
-static size_t table_sent(const struct head *h)
-{
-    return h->table_kept ? 0 : h->table;
-}
-
-static size_t project_sent(const struct head *h)
-{
-    return h->project_kept ? 0 : h->project;
-}
-
-static size_t own_sent(const struct head *h)
-{
-    return h->own_kept ? 0 : h->own;
-}
-
 static size_t wanted(size_t have)
 {
-    const struct head *h = (const struct head *)request;
-    if (have < sizeof *h)
-        return sizeof *h;
-    return sizeof *h + h->codes + table_sent(h) + project_sent(h) + own_sent(h) + h->octets +
-           h->memory + h->room;
+    const struct head *head = (const struct head *)request;
+    size_t all = sizeof *head;
+    if (have >= all)
+        for (int i = 0; i < MOST_ARGUMENTS; i++)
+            all += sent(&head->arguments[i]);
+    return all;
 }
 
 static void receive(void)
@@ -191,43 +117,42 @@ static void receive(void)
 
 static void reply(size_t n)
 {
-    for (size_t sent = 0; sent < n;) {
-        long more = kernel(WRITE, 1, answer + sent, (long)(n - sent));
+    for (size_t done = 0; done < n;) {
+        long more = kernel(WRITE, 1, answer + done, (long)(n - done));
         if (more <= 0)
             kernel(EXIT, 1, 0, 0);
-        sent += (size_t)more;
+        done += (size_t)more;
     }
 }
 
-/* Memory and room are lent where the answer is sent from. */
-static struct lent lend(const struct head *h)
+/* Lends each slice: a room where the answer is sent from, one that stays where it is kept. The
+ * answer's length. */
+static size_t lend(const struct head *head, struct given *given)
 {
-    uint8_t *codes = request + sizeof *h;
-    uint8_t *table_here = codes + h->codes;
-    uint8_t *project_here = table_here + table_sent(h);
-    uint8_t *own_here = project_here + project_sent(h);
-    uint8_t *octets = own_here + own_sent(h);
-    uint8_t *memory = answer + sizeof(uint64_t);
-    memcpy(table, table_here, table_sent(h));
-    memcpy(project, project_here, project_sent(h));
-    memcpy(own, own_here, own_sent(h));
-    memcpy(memory, octets + h->octets, h->memory + h->room);
-    return (struct lent){.octets = h->null & NULL_OCTETS ? 0 : octets,
-                         .codes = h->null & NULL_CODES ? 0 : codes,
-                         .table = h->null & NULL_TABLE ? 0 : table,
-                         .project = h->null & NULL_PROJECT ? 0 : project,
-                         .own = h->null & NULL_OWN ? 0 : own,
-                         .memory = h->null & NULL_MEMORY ? 0 : memory,
-                         .room = h->null & NULL_ROOM ? 0 : memory + h->memory};
+    uint8_t *octets = request + sizeof *head, *room = answer + sizeof(uint64_t);
+    for (int i = 0; i < MOST_ARGUMENTS; i++) {
+        const struct argument *a = &head->arguments[i];
+        uint8_t *at = octets;
+        if (a->kind == ROOM_LENT)
+            at = memcpy(room, octets, sent(a));
+        else if (stays(a))
+            at = memcpy(kept[i], octets, sent(a));
+        given[i] = (struct given){a->number, a->null ? 0 : at};
+        octets += sent(a);
+        room += sent_back(a);
+    }
+    return (size_t)(room - answer);
 }
 
 void serve(void)
 {
     for (;;) {
+        struct given given[MOST_ARGUMENTS];
         receive();
-        const struct head *h = (const struct head *)request;
-        uint64_t number = do_call(h, lend(h));
+        const struct head *head = (const struct head *)request;
+        size_t n = lend(head, given);
+        uint64_t number = do_call(head->call, given);
         memcpy(answer, &number, sizeof number);
-        reply(sizeof number + h->memory + h->room);
+        reply(n);
     }
 }

@@ -77,25 +77,12 @@ static struct iovec part(const void *octets, size_t n)
 /* Sends a head and the parts behind it. The answer has n octets behind its number. */
 static const uint8_t *exchange(struct iovec *parts, int count, size_t n)
 {
-    static __thread uint8_t answer[sizeof(uint64_t) + MOST_OCTETS];
-    size_t left = MOST_REQUEST;
-    if (n > MOST_OCTETS)
-        fail("more octets than the library's process gives");
-    for (int i = 1; i < count; left -= parts[i++].iov_len)
-        if (parts[i].iov_len > left)
-            fail("more octets than the library's process takes");
+    static __thread uint8_t answer[sizeof(uint64_t) + MOST_ROOMS];
     if (to_library < 0)
         start();
     send_all(parts, count);
     receive_all(answer, sizeof(uint64_t) + n);
     return answer;
-}
-
-static uint64_t number_of(const uint8_t *answer)
-{
-    uint64_t number;
-    memcpy(&number, answer, sizeof number);
-    return number;
 }
 
 /* As memcpy, but null pointers do where n is 0. */
@@ -105,193 +92,84 @@ static void copy(uint8_t *to, const uint8_t *from, size_t n)
         memcpy(to, from, n);
 }
 
-static uint64_t hand_on(struct head h, const uint8_t *octets, size_t n, uint8_t *room, size_t m)
-{
-    h.octets = n;
-    h.room = m;
-    h.null = (uint16_t)((octets ? 0 : NULL_OCTETS) | (room ? 0 : NULL_ROOM));
-    struct iovec parts[] = {part(&h, sizeof h), part(octets, n), part(room, m)};
-    const uint8_t *answer = exchange(parts, 3, m);
-    copy(room, answer + sizeof(uint64_t), m);
-    return number_of(answer);
-}
-
-/* A part that many calls have in common, as it was sent last. Sent with each call it would take
- * most of the time. */
+/* A slice as it was sent last in its place. */
 struct kept {
     uint8_t *octets;
     size_t length;
 };
 
-static __thread struct kept last_table, last_project, last_own;
-
-/* Whether a part is the one sent last; if not, it is now. */
-static uint8_t is_kept(struct kept *last, const uint8_t *octets, size_t n, size_t most)
+/* Whether a slice is the one sent last; if not, it is now. */
+static uint8_t is_kept(struct kept *last, const uint8_t *octets, size_t n)
 {
-    if (n > most)
-        fail("a larger table or store than the library's process takes");
-    if (n == last->length && (n == 0 || memcmp(octets, last->octets, n) == 0))
+    if (n == last->length && memcmp(octets, last->octets, n) == 0)
         return 1;
     free(last->octets);
-    last->octets = malloc(n + 1);
+    last->octets = malloc(n);
     if (!last->octets)
         fail("malloc");
     last->length = n;
-    copy(last->octets, octets, n);
+    memcpy(last->octets, octets, n);
     return 0;
 }
 
-uint8_t klumdray_check_octet(const uint8_t *octets, size_t n)
-{
-    return (uint8_t)hand_on((struct head){.call = CALL_CHECK_OCTET}, octets, n, NULL, 0);
-}
-
-uint64_t klumdray_tp1_read(const uint8_t *octets, size_t n)
-{
-    return hand_on((struct head){.call = CALL_TP1_READ}, octets, n, NULL, 0);
-}
-
-uint64_t klumdray_tp1_write(uint8_t extended, uint8_t first_sending, uint8_t priority,
-                            uint16_t source, uint8_t group, uint16_t destination, uint8_t count,
-                            const uint8_t *payload, size_t n, uint8_t *room, size_t m)
-{
-    struct head h = {.call = CALL_TP1_WRITE,
-                     .extended = extended,
-                     .first_sending = first_sending,
-                     .priority = priority,
-                     .source = source,
-                     .group = group,
-                     .destination = destination,
-                     .count = count};
-    return hand_on(h, payload, n, room, m);
-}
-
-uint64_t klumdray_cemi_read(const uint8_t *octets, size_t n)
-{
-    return hand_on((struct head){.call = CALL_CEMI_READ}, octets, n, NULL, 0);
-}
-
-uint64_t klumdray_cemi_write(uint8_t code, uint8_t error_mark, uint8_t extended,
-                             uint8_t first_sending, uint8_t priority, uint16_t source,
-                             uint8_t group, uint16_t destination, uint8_t count,
-                             const uint8_t *payload, size_t n, uint8_t *room, size_t m)
-{
-    struct head h = {.call = CALL_CEMI_WRITE,
-                     .code = code,
-                     .error_mark = error_mark,
-                     .extended = extended,
-                     .first_sending = first_sending,
-                     .priority = priority,
-                     .source = source,
-                     .group = group,
-                     .destination = destination,
-                     .count = count};
-    return hand_on(h, payload, n, room, m);
-}
-
-uint64_t klumdray_routing_read(const uint8_t *octets, size_t n)
-{
-    return hand_on((struct head){.call = CALL_ROUTING_READ}, octets, n, NULL, 0);
-}
-
-uint64_t klumdray_routing_write(uint8_t code, uint8_t error_mark, uint8_t extended,
-                                uint8_t first_sending, uint8_t priority, uint16_t source,
-                                uint8_t group, uint16_t destination, uint8_t count,
-                                const uint8_t *payload, size_t n, uint8_t *room, size_t m)
-{
-    struct head h = {.call = CALL_ROUTING_WRITE,
-                     .code = code,
-                     .error_mark = error_mark,
-                     .extended = extended,
-                     .first_sending = first_sending,
-                     .priority = priority,
-                     .source = source,
-                     .group = group,
-                     .destination = destination,
-                     .count = count};
-    return hand_on(h, payload, n, room, m);
-}
-
-uint64_t klumdray_step(uint8_t line, const uint8_t *codes, size_t codes_length,
-                       const uint8_t *table, size_t table_length, uint8_t side, uint8_t medium,
-                       uint8_t *memory, size_t memory_length, const uint8_t *octets, size_t length,
-                       uint8_t *room, size_t room_length)
-{
-    struct head h = {.call = CALL_STEP,
-                     .octets = length,
-                     .room = room_length,
-                     .codes = codes_length,
-                     .table = table_length,
-                     .memory = memory_length,
-                     .line = line,
-                     .side = side,
-                     .medium = medium,
-                     .table_kept = is_kept(&last_table, table, table_length, MOST_TABLE)};
-    h.null = (uint16_t)((octets ? 0 : NULL_OCTETS) | (room ? 0 : NULL_ROOM) |
-                        (codes ? 0 : NULL_CODES) | (table ? 0 : NULL_TABLE) |
-                        (memory ? 0 : NULL_MEMORY));
-    struct iovec parts[] = {part(&h, sizeof h),
-                            part(codes, codes_length),
-                            part(table, h.table_kept ? 0 : table_length),
-                            part(octets, length),
-                            part(memory, memory_length),
-                            part(room, room_length)};
-    const uint8_t *answer = exchange(parts, 6, memory_length + room_length);
-    copy(memory, answer + sizeof(uint64_t), memory_length);
-    copy(room, answer + sizeof(uint64_t) + memory_length, room_length);
-    return number_of(answer);
-}
-
-/* A site's records and stores, as lent to the tracer. */
-struct site {
-    const uint8_t *records, *project, *own;
-    size_t records_length, project_length, own_length;
+/* An argument: its number, or its octets and how many they are. */
+struct given {
+    enum kind kind;
+    uint64_t number;
+    uint8_t *octets;
 };
 
-static uint64_t hand_on_site(struct head h, struct site site, uint8_t *room, size_t m)
+/* An argument as the head of a request has it. */
+static struct argument described(size_t place, const struct given *given)
 {
-    h.octets = site.records_length;
-    h.project = site.project_length;
-    h.own = site.own_length;
-    h.room = m;
-    h.project_kept = is_kept(&last_project, site.project, site.project_length, MOST_STORE);
-    h.own_kept = is_kept(&last_own, site.own, site.own_length, MOST_STORE);
-    h.null = (uint16_t)((site.records ? 0 : NULL_OCTETS) | (room ? 0 : NULL_ROOM) |
-                        (site.project ? 0 : NULL_PROJECT) | (site.own ? 0 : NULL_OWN));
-    struct iovec parts[] = {part(&h, sizeof h),
-                            part(site.project, h.project_kept ? 0 : site.project_length),
-                            part(site.own, h.own_kept ? 0 : site.own_length),
-                            part(site.records, site.records_length),
-                            part(room, m)};
-    const uint8_t *answer = exchange(parts, 5, m);
-    copy(room, answer + sizeof(uint64_t), m);
-    return number_of(answer);
+    static __thread struct kept last[MOST_ARGUMENTS];
+    struct argument a = {.number = given->number, .kind = (uint8_t)given->kind};
+    a.null = a.kind != A_NUMBER && !given->octets;
+    a.kept = stays(&a) && is_kept(&last[place], given->octets, given->number);
+    return a;
 }
 
-uint64_t klumdray_trace(uint8_t start, uint8_t kind, uint16_t destination, uint8_t count,
-                        const uint8_t *site, size_t site_length, const uint8_t *project,
-                        size_t project_length, const uint8_t *own, size_t own_length,
-                        uint8_t *room, size_t room_length)
+/* Puts the rooms, one behind the other as the library has left them, where they were lent. */
+static void take_rooms(const struct given *given, size_t count, const uint8_t *rooms)
 {
-    struct head h = {.call = CALL_TRACE,
-                     .start = start,
-                     .kind = kind,
-                     .destination = destination,
-                     .count = count};
-    struct site lent = {site, project, own, site_length, project_length, own_length};
-    return hand_on_site(h, lent, room, room_length);
+    for (size_t i = 0; i < count; i++)
+        if (given[i].kind == ROOM_LENT) {
+            copy(given[i].octets, rooms, given[i].number);
+            rooms += given[i].number;
+        }
 }
 
-uint32_t klumdray_why(uint8_t start, uint8_t kind, uint16_t destination, uint8_t count,
-                      const uint8_t *site, size_t site_length, const uint8_t *project,
-                      size_t project_length, const uint8_t *own, size_t own_length, uint8_t line)
+static uint64_t hand_on(enum call call, const struct given *given, size_t count)
 {
-    struct head h = {.call = CALL_WHY,
-                     .start = start,
-                     .kind = kind,
-                     .destination = destination,
-                     .count = count,
-                     .line = line};
-    struct site lent = {site, project, own, site_length, project_length, own_length};
-    return (uint32_t)hand_on_site(h, lent, NULL, 0);
+    struct head head = {.call = call};
+    struct iovec parts[1 + MOST_ARGUMENTS] = {part(&head, sizeof head)};
+    size_t all = 0, rooms = 0;
+    uint64_t number;
+    if (count > MOST_ARGUMENTS)
+        fail("more arguments than a head has");
+    for (size_t i = 0; i < count; i++) {
+        struct argument *a = &head.arguments[i];
+        *a = described(i, &given[i]);
+        parts[1 + i] = part(given[i].octets, sent(a));
+        all += sent(a);
+        rooms += sent_back(a);
+    }
+    if (all > MOST_REQUEST || rooms > MOST_ROOMS)
+        fail("more octets than the library's process takes");
+    const uint8_t *answer = exchange(parts, 1 + (int)count, rooms);
+    memcpy(&number, answer, sizeof number);
+    take_rooms(given, count, answer + sizeof number);
+    return number;
 }
+
+#define LISTED(...) {__VA_ARGS__}
+#define NUMBER(place, name) {A_NUMBER, name, NULL}
+#define OCTETS(place, name, size) {OCTETS_LENT, size, (uint8_t *)(uintptr_t)name}
+#define ROOM(place, name, size) {ROOM_LENT, size, name}
+#define CALL(answer, name, parameters, arguments)                                   \
+    answer name parameters                                                          \
+    {                                                                               \
+        const struct given given[] = LISTED arguments;                              \
+        return (answer)hand_on(CALL_##name, given, sizeof given / sizeof given[0]); \
+    }
+#include "calls.h"

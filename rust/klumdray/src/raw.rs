@@ -64,7 +64,7 @@ pub struct Site<'a> {
     pub own: &'a [u8],
 }
 
-// Line by line as the header declares them, so that the two can be held side by side.
+// Line by line as the header declares them: tools/make-surface writes them.
 #[rustfmt::skip]
 extern "C" {
     fn klumdray_check_octet(octets: *const u8, n: usize) -> u8;

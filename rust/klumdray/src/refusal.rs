@@ -12,6 +12,7 @@ use std::fmt;
 #[derive(Clone, Copy, Debug, PartialEq, Eq, PartialOrd, Ord, Hash)]
 pub struct Refusal(u8);
 
+// The rows of document 01's table: tools/make-surface writes them and the words below.
 impl Refusal {
     /// Fewer octets than the frame needs.
     pub const TOO_FEW: Refusal = Refusal(1);
@@ -49,24 +50,51 @@ impl Refusal {
     pub const LINE_TWICE: Refusal = Refusal(17);
     /// Filter table missing or of wrong size.
     pub const TABLE: Refusal = Refusal(18);
+}
 
-    /// The refusal that an answer carries; the library gives no numbers but those above.
+/// The words of document 01's table, by number.
+const WORDS: &[&str] = &[
+    "not a refusal",
+    "fewer octets than the frame needs",
+    "TP1 control octet of another kind",
+    "EFF not 0000",
+    "LG octet 255",
+    "octets left after the frame",
+    "wrong check octet",
+    "message code not 11h, 2Eh, 29h; in routing, not 29h",
+    "a = 255",
+    "cEMI standard with LG above 15",
+    "KNXnet/IP header length not 06h or version not 10h",
+    "service not 0530h",
+    "total length differs from the datagram's",
+    "lent room too small",
+    "a number given by the caller is outside its range",
+    "own line 00h, or a setting code not allowed",
+    "site length not a multiple of 12, or a wrong mark",
+    "one line twice in a site",
+    "filter table missing or of wrong size",
+];
+
+impl Refusal {
+    /// The refusal that an answer carries; the library gives no numbers but the table's.
     #[inline]
     pub(crate) fn answered(number: u8) -> Refusal {
         Refusal(number)
     }
 
-    /// The refusal with a number of document 01's table, 1 to 18.
+    /// The refusal with a number of document 01's table, which are 1 and above.
     ///
     /// ```
     /// use klumdray::Refusal;
     /// assert_eq!(Refusal::from_number(6), Some(Refusal::CHECK_OCTET));
     /// assert_eq!(Refusal::from_number(0), None);
-    /// assert_eq!(Refusal::from_number(19), None);
+    /// assert_eq!(Refusal::from_number(255), None);
     /// ```
     #[inline]
     pub fn from_number(number: u8) -> Option<Refusal> {
-        (1..=18).contains(&number).then_some(Refusal(number))
+        (1..WORDS.len())
+            .contains(&usize::from(number))
+            .then_some(Refusal(number))
     }
 
     /// The number in document 01's table.
@@ -85,27 +113,10 @@ impl Refusal {
     /// assert_eq!(klumdray::Refusal::CHECK_OCTET.words(), "wrong check octet");
     /// ```
     pub fn words(self) -> &'static str {
-        match self {
-            Refusal::TOO_FEW => "fewer octets than the frame needs",
-            Refusal::ANOTHER_KIND => "TP1 control octet of another kind",
-            Refusal::EFF => "EFF not 0000",
-            Refusal::ESCAPE => "LG octet 255",
-            Refusal::OCTETS_LEFT => "octets left after the frame",
-            Refusal::CHECK_OCTET => "wrong check octet",
-            Refusal::MESSAGE_CODE => "message code not 11h, 2Eh, 29h; in routing, not 29h",
-            Refusal::INFORMATION => "a = 255",
-            Refusal::STANDARD_LG => "cEMI standard with LG above 15",
-            Refusal::HEADER => "KNXnet/IP header length not 06h or version not 10h",
-            Refusal::SERVICE => "service not 0530h",
-            Refusal::TOTAL_LENGTH => "total length differs from the datagram's",
-            Refusal::ROOM => "lent room too small",
-            Refusal::RANGE => "a number given by the caller is outside its range",
-            Refusal::SETTING => "own line 00h, or a setting code not allowed",
-            Refusal::SITE => "site length not a multiple of 12, or a wrong mark",
-            Refusal::LINE_TWICE => "one line twice in a site",
-            Refusal::TABLE => "filter table missing or of wrong size",
-            _ => "not a number of these calls",
-        }
+        WORDS
+            .get(usize::from(self.0))
+            .copied()
+            .unwrap_or("not a number of these calls")
     }
 }
 

@@ -187,7 +187,7 @@ fn bindings_say_what_the_rows_say() {
 fn numbers(source: &str) -> String {
     let rows = rows::rows(source);
     let count = |test: &dyn Fn(&Row) -> bool| rows.iter().filter(|row| test(row)).count();
-    let refused: Vec<String> = (1..=18)
+    let refused: Vec<String> = (1..=usize::from(u8::MAX))
         .map(|number| (number, count(&|row| row.number() == number)))
         .filter(|&(_, count)| count > 0)
         .map(|(number, count)| format!("{count} by {number}"))
