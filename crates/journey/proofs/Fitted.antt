@@ -8,18 +8,18 @@ use native.Mathlib.Omega.{arith}
 use lib.Dec.{ltb, eqb}
 use lib.ListN.{length, take, drop}
 use borrow.Author.Tests.{eqb-true, not-false, lt-ltb, le-ltb, eq-eqb}
-use Rattle.passing.specs.Settings.{areCodes, asksTable, tableFits}
 use Rattle.coupler.specs.Step.{settingTests}
 use Rattle.frame.proofs.Order.{passed-iff}
 use Rattle.frame.specs.Order.{firstOf, NoneOf}
 use Rattle.frame.specs.declared.Verdict.the-variants.{Fine}
+use Rattle.journey.specs.Journey.{AtWork, isIp, settingBy}
 use Rattle.octets.proofs.Octets.{octets-take, octets-drop}
 use Rattle.octets.specs.Octets.{Octets}
+use Rattle.passing.specs.Settings.{areCodes, asksTable, tableFits}
 use Rattle.site.specs.Records.{recordsBy, recordsOf, lineOf, codesOf, tableNumber, couplerIn, couplerOf, isFitted}
 use Rattle.site.specs.Stores.{Stores, tableOf}
 use Rattle.site.specs.WellFormed.{hasTable, recordsTests, siteTests}
 use Rattle.tracer.proofs.Paths.{by-cases, never}
-use Rattle.journey.specs.Journey.{AtWork, isIp, settingBy}
 use Rattle.tracer.specs.Lines.{mainSide}
 
 -- the record of a line, as a well-formed site has it

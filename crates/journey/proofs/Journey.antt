@@ -10,47 +10,68 @@ use native.Mathlib.Omega.{arith}
 use lib.Dec.{eqb}
 use lib.ListN.{length}
 use borrow.Author.Tests.{eqb-false, not-true, ne-eqb}
-use Rattle.passing.specs.Passing.{hopped}
-use Rattle.coupler.specs.Step.{readBy, forwardedMeaning, frame}
+use Rattle.coupler.specs.Step.{readBy, kindOf, forwardedMeaning, frame}
+use Rattle.coupler.specs.declared.Setting.{Setting}
 use Rattle.frame.proofs.Valid.{ranges-of, ranged}
 use Rattle.frame.specs.Order.{firstOf}
 use Rattle.frame.specs.declared.Verdict.the-variants.{Fine}
 use Rattle.frame.specs.Valid.{Valid}
 use Rattle.frame.specs.declared.Meaning.{Meaning}
+use Rattle.journey.proofs.Fitted.{fitted-line, fitted-below}
+use Rattle.journey.proofs.Handing.{form-on-read, is-set, hands-line, hands-side, hands-passes, passes-hands}
+use Rattle.journey.proofs.SoMany.{Counted, so-many}
+use Rattle.journey.specs.Journey.{AtWork, ownCoupler, isIp, formOn, couplerAt, Hands, Arrives, Sends, SoMany, ArrivesWith, askedOf, withCount, put-there, handed-on}
 use Rattle.octets.proofs.Below.{and-true}
 use Rattle.octets.specs.Octets.{Octets}
 use Rattle.site.specs.Letting.{recordPasses, lineLetsPass}
-use Rattle.site.specs.Records.{recordsOf, isFitted}
+use Rattle.site.specs.Records.{isFitted}
 use Rattle.site.specs.WellFormed.{siteTests}
 use Rattle.tracer.proofs.CountLaws.{arrival-none, arrival-below, hopped-more}
 use Rattle.tracer.proofs.Crossings.{goes-on, last-of, distance-more, listed-more, forwarding-is}
-use Rattle.journey.proofs.Fitted.{fitted-set, fitted-line, fitted-below}
-use Rattle.journey.proofs.Handing.{one-if, form-on-read, hands-line, hands-side, hands-passes, passes-hands}
 use Rattle.tracer.proofs.ListLaws.{start-listed}
 use Rattle.tracer.proofs.Paths.{by-cases, main-below, path-same, distance-same, distance-zero}
-use Rattle.journey.proofs.SoMany.{Counted, so-many}
 use Rattle.tracer.proofs.Standing.{ListedWith}
-use Rattle.journey.specs.Journey.{AtWork, ownCoupler, isIp, formOn, Hands, Arrives, Sends, SoMany, ArrivesWith, askedOf, withCount, put-there, handed-on}
 use Rattle.tracer.specs.Lines.{mainSide, Crossing, fromLine, toLine, cameOver, path, distance}
-use Rattle.tracer.specs.Query.{onArrival}
+use Rattle.tracer.specs.Query.{onArrival, hoppedIn}
+use Rattle.tracer.specs.declared.Query.{Query}
 use Rattle.tracer.specs.Listing.{crossingPasses, isListed, isForwarding, forwardings}
 
-forwarded-with : (m : Meaning) (k : ℕ) → m .first ≡ true → forwardedMeaning (withCount k m) ≡ withCount (hopped k) m
-forwarded-with m k e = let f : true ≡ m .first = sym e in λ i. record { extended = m .extended; first = f i; priority = m .priority; source = m .source; group = m .group; destination = m .destination; count = hopped k }
+-- the one place where a coupler's hop rule meets that of the list: whatever its setting is, it forwards a first sending with the count by
+-- which the query goes on
+forwarded-with : (k : Setting) (q : Query) (m : Meaning) (count : ℕ) → m .first ≡ true → forwardedMeaning k (withCount count m) ≡ withCount (hoppedIn q count) m
+forwarded-with k q m count e =
+    let f : true ≡ m .first = sym e in
+    λ i. record { extended = m .extended; first = f i; priority = m .priority; source = m .source; group = m .group; destination = m .destination; count = hoppedIn q count }
 
 module _ (w : AtWork) (ok : firstOf (siteTests (w .stores) (w .site)) ≡ Fine) (start : ℕ) (m : Meaning) (p : List ℕ) (v : Valid m p) (new : m .first ≡ true) where
-  -- the first sending as it is after the couplers of the path to a line, and its form there
+  abbrev asked : Query
+  asked = askedOf start m
+
+  -- the count of the first sending after the couplers of the path to a line, itself as it is then, and its form there
+
+  abbrev countOn : ℕ → ℕ
+  countOn t = onArrival asked (distance start t)
+
   abbrev onLine : ℕ → Meaning
-  onLine t = withCount (onArrival (m .count) (distance start t)) m
+  onLine t = withCount (countOn t) m
 
   abbrev formThere : ℕ → List ℕ
   formThere t = formOn w t (onLine t) p
 
   abbrev passes : Crossing → Bool
-  passes = crossingPasses (w .stores) (w .site) (askedOf start m)
+  passes = crossingPasses (w .stores) (w .site) asked
+
+  abbrev lists : ℕ → Bool
+  lists = isListed passes start (m .count)
 
   abbrev Lists : ℕ → Type 0
-  Lists t = isListed passes start (m .count) t ≡ true
+  Lists t = lists t ≡ true
+
+  abbrev FirstArrives : ℕ → List ℕ → List Crossing → Type 0
+  FirstArrives = Arrives w start (formOn w start m p)
+
+  abbrev FirstSends : Crossing → Type 0
+  FirstSends = Sends w start (formOn w start m p)
 
   counted : m .count < 8
   counted = ranges-of m (length p) (v .ranges) .count
@@ -59,39 +80,43 @@ module _ (w : AtWork) (ok : firstOf (siteTests (w .stores) (w .site)) ≡ Fine) 
   valid-on t =
       let r = ranges-of m (length p) (v .ranges) in
       record {
-        ranges = ranged (onLine t) (length p) (record { priority = r .priority; count = arrival-below (m .count) (distance start t) (r .count); some = r .some; most = r .most });
+        ranges = ranged (onLine t) (length p) (record { priority = r .priority; count = arrival-below asked (distance start t) (r .count); some = r .some; most = r .most });
         source = v .source;
         destination = v .destination;
         octets = v .octets;
       }
 
-  asked : (x : Crossing) → passes x ≡ lineLetsPass (w .stores) (m .group) (m .destination) (recordsOf (w .site)) (x .direction) (x .line)
-  asked x = ap (λ (b : Bool). lineLetsPass (w .stores) b (m .destination) (recordsOf (w .site)) (x .direction) (x .line)) (one-if (m .group))
-
   form-start : formThere start ≡ formOn w start m p
-  form-start = ap (λ (k : ℕ). formOn w start (withCount k m) p) (ap (onArrival (m .count)) (distance-same start) ∙ arrival-none (m .count))
+  form-start = ap (λ (k : ℕ). formOn w start (withCount k m) p) (ap (onArrival asked) (distance-same start) ∙ arrival-none asked)
 
   module _ (x : Crossing) (e : path start (toLine x) ≡ path start (fromLine x) ++ (x ∷ [])) where
-    onward-is : formOn w (toLine x) (forwardedMeaning (onLine (fromLine x))) p ≡ formThere (toLine x)
+    abbrev before : ℕ
+    before = fromLine x
+
+    abbrev setting : Setting
+    setting = couplerAt w x .setting
+
+    onward-is : formOn w (toLine x) (forwardedMeaning setting (onLine before)) p ≡ formThere (toLine x)
     onward-is =
-        ap (λ (y : Meaning). formOn w (toLine x) y p) (
-        forwarded-with m (onArrival (m .count) (distance start (fromLine x))) new
-        ∙ ap (λ (k : ℕ). withCount k m) (hopped-more (m .count) (distance start (fromLine x)) (omega (arith, counted)) ∙ ap (onArrival (m .count)) (sym (distance-more start (toLine x) (fromLine x) x e)))
-        )
+        let hops : hoppedIn asked (countOn before) ≡ countOn (toLine x) =
+        hopped-more asked (distance start before) (omega (arith, counted)) ∙ ap (onArrival asked) (sym (distance-more start (toLine x) before x e)) in
+        ap (λ (y : Meaning). formOn w (toLine x) y p) (forwarded-with setting asked m (countOn before) new ∙ ap (λ (k : ℕ). withCount k m) hops)
 
-    step-lists : (onward : List ℕ) → Lists (fromLine x) → Hands w x (formThere (fromLine x)) onward → Lists (toLine x) × (onward ≡ formThere (toLine x))
+    more : lists (toLine x) ≡ lists before && passes x && not (eqb (countOn before) 0)
+    more = listed-more passes asked (toLine x) before x e
+
+    step-lists : (onward : List ℕ) → Lists before → Hands w x (formThere before) onward → Lists (toLine x) × (onward ≡ formThere (toLine x))
     step-lists onward l h =
-        let y = hands-passes w ok x (onLine (fromLine x)) p (valid-on (fromLine x)) onward h in
-        let z = ne-eqb (onArrival (m .count) (distance start (fromLine x))) 0 (y .1 .0) in
-        (listed-more passes start (m .count) (toLine x) (fromLine x) x e ∙ rw (l, asked x, y .0, z) refl, y .1 .1 ∙ onward-is)
+        let y = hands-passes w ok x (onLine before) p (valid-on before) onward h in
+        (more ∙ rw (l, y .0, ne-eqb (countOn before) 0 (y .1 .0)) refl, y .1 .1 ∙ onward-is)
 
-    lists-step : x .direction < 2 → Lists (toLine x) → Lists (fromLine x) × Hands w x (formThere (fromLine x)) (formThere (toLine x))
+    lists-step : x .direction < 2 → Lists (toLine x) → Lists before × Hands w x (formThere before) (formThere (toLine x))
     lists-step side l =
-        let k : ℕ = onArrival (m .count) (distance start (fromLine x)) in
-        let a = and-true (isListed passes start (m .count) (fromLine x) && passes x) (not (eqb k 0)) (sym (listed-more passes start (m .count) (toLine x) (fromLine x) x e) ∙ l) in
-        let b = and-true (isListed passes start (m .count) (fromLine x)) (passes x) (a .0) in
-        let h = passes-hands w ok x (onLine (fromLine x)) p (valid-on (fromLine x)) new side (sym (asked x) ∙ b .1) (eqb-false k 0 (not-true (eqb k 0) (a .1))) in
-        (b .0, subst (Hands w x (formThere (fromLine x))) onward-is h)
+        let none : Bool = eqb (countOn before) 0 in
+        let a = and-true (lists before && passes x) (not none) (sym more ∙ l) in
+        let b = and-true (lists before) (passes x) (a .0) in
+        let h = passes-hands w ok x (onLine before) p (valid-on before) new side (b .1) (eqb-false (countOn before) 0 (not-true none (a .1))) in
+        (b .0, subst (Hands w x (formThere before)) onward-is h)
 
   -- what is known of octets that arrive
   record Arrived (t : ℕ) (octets : List ℕ) (way : List Crossing) : Type 0 where
@@ -103,8 +128,8 @@ module _ (w : AtWork) (ok : firstOf (siteTests (w .stores) (w .site)) ≡ Fine) 
       → path start (toLine x) ≡ path start (fromLine x) ++ (x ∷ [])
   longer x e d h = goes-on start (x .direction) (x .line) (hands-side w ok x h) (hands-line w ok x h) (ap (λ (y : List Crossing). cameOver y (x .line)) (sym e) ∙ d)
 
-  arrived : {t : ℕ} {octets : List ℕ} {way : List Crossing} → Arrives w start (formOn w start m p) t octets way → Arrived t octets way
-  arrived put-there = record { lists = start-listed passes start (m .count); are = sym form-start; along = sym (path-same start) }
+  arrived : {t : ℕ} {octets : List ℕ} {way : List Crossing} → FirstArrives t octets way → Arrived t octets way
+  arrived put-there = record { lists = start-listed passes asked; are = sym form-start; along = sym (path-same start) }
   arrived (handed-on {octets = o} {onward = o′} {way = y} x a d h) =
       let b = arrived a in
       let e = longer x (b .along) d h in
@@ -112,12 +137,12 @@ module _ (w : AtWork) (ok : firstOf (siteTests (w .stores) (w .site)) ≡ Fine) 
       record { lists = z .0; are = z .1; along = ap (λ (l : List Crossing). l ++ (x ∷ [])) (b .along) ∙ sym e }
 
   abbrev Comes : ℕ → Type 0
-  Comes t = Arrives w start (formOn w start m p) t (formThere t) (path start t)
+  Comes t = FirstArrives t (formThere t) (path start t)
 
   comes-by : (d t : ℕ) → distance start t ≡ d → Lists t → Comes t
   comes-by zero t e l =
       subst Comes (distance-zero start t e)
-      (subst (λ (o : List ℕ). Arrives w start (formOn w start m p) start o (path start start)) (sym form-start) (subst (Arrives w start (formOn w start m p) start (formOn w start m p)) (sym (path-same start)) put-there))
+      (subst (λ (o : List ℕ). FirstArrives start o (path start start)) (sym form-start) (subst (FirstArrives start (formOn w start m p)) (sym (path-same start)) put-there))
   comes-by (suc d) t e l =
       let a = last-of start t (λ z. omega (arith, ap (distance start) (sym z), distance-same start)) in
       let x : Crossing = a .last in
@@ -125,11 +150,11 @@ module _ (w : AtWork) (ok : firstOf (siteTests (w .stores) (w .site)) ≡ Fine) 
       let y = lists-step x g (a .side) (subst Lists (sym (a .leads)) l) in
       let c = comes-by d (fromLine x) (omega (arith, distance-more start t (fromLine x) x (a .longer))) (y .0) in
       subst Comes (a .leads)
-      (subst (Arrives w start (formOn w start m p) (toLine x) (formThere (toLine x))) (sym g) (handed-on x c (a .ahead) (y .1)))
+      (subst (FirstArrives (toLine x) (formThere (toLine x))) (sym g) (handed-on x c (a .ahead) (y .1)))
 
   -- a line is listed with a count and so many couplers crossed exactly if the first sending, handed on from line to line by the couplers,
   -- arrives there with them
-  pub list-is-journey : (t k d : ℕ) → ListedWith (w .stores) (w .site) (askedOf start m) t k d ↔ ArrivesWith w start m p t k d
+  pub list-is-journey : (t k d : ℕ) → ListedWith (w .stores) (w .site) asked t k d ↔ ArrivesWith w start m p t k d
   unfolding distance
   list-is-journey t k d = (
     (λ l.
@@ -150,56 +175,64 @@ module _ (w : AtWork) (ok : firstOf (siteTests (w .stores) (w .site)) ≡ Fine) 
   )
 
   -- whatever arrives is the first sending, in the line's form, with nothing changed but the count; and it came along the path
-  pub arrives-listed : {t : ℕ} {octets : List ℕ} {way : List Crossing} → Arrives w start (formOn w start m p) t octets way
-      → ListedWith (w .stores) (w .site) (askedOf start m) t (onArrival (m .count) (distance start t)) (length way)
-      × ((octets ≡ formOn w t (withCount (onArrival (m .count) (distance start t)) m) p) × (way ≡ path start t))
+  pub arrives-listed : {t : ℕ} {octets : List ℕ} {way : List Crossing} → FirstArrives t octets way
+      → ListedWith (w .stores) (w .site) asked t (countOn t) (length way) × ((octets ≡ formThere t) × (way ≡ path start t))
   unfolding distance
   arrives-listed a =
       let b = arrived a in
       (record { lists = b .lists; counts = refl; crosses = ap length (sym (b .along)) }, (b .are, b .along))
 
   -- it arrives on none but the 256 lines
-  pub arrives-below : Octets (w .site) → start < 256 → {t : ℕ} {octets : List ℕ} {way : List Crossing} → Arrives w start (formOn w start m p) t octets way → t < 256
+  pub arrives-below : Octets (w .site) → start < 256 → {t : ℕ} {octets : List ℕ} {way : List Crossing} → FirstArrives t octets way → t < 256
   arrives-below o h put-there = h
   arrives-below o h (handed-on x a d y) =
-      let n : x .line < 256 = fitted-below (w .stores) (w .site) (x .line) o (fitted-set (w .stores) (w .site) ok (x .line) (y .fitted)) in
+      let n : x .line < 256 = fitted-below (w .stores) (w .site) (x .line) o (is-set w ok x (y .fitted)) in
       let l : mainSide (x .line) < 256 = omega (arith, main-below (x .line) (hands-line w ok x y)) in
       by-cases (eqb (x .direction) 0) (λ e. rw e n) (λ e. rw e l)
 
   -- a coupler sends exactly if it makes what is counted as a forwarding
 
+  abbrev Forwarding : Crossing → Type 0
+  Forwarding x = isForwarding passes asked x ≡ true
+
   fitted-at : (x : Crossing) → passes x ≡ true → isFitted (ownCoupler w (x .line)) ≡ true
   unfolding lineLetsPass
   fitted-at x e =
       let r : List ℕ = ownCoupler w (x .line) in
-      and-true (isFitted r) (recordPasses (w .stores) (m .group) (m .destination) (x .direction) r) (sym (asked x) ∙ e) .0
+      and-true (isFitted r) (recordPasses (w .stores) (kindOf m) (m .destination) (x .direction) r) e .0
 
-  forwarding-fitted : (x : Crossing) → isForwarding passes start (m .count) x ≡ true → isFitted (ownCoupler w (x .line)) ≡ true
+  forwarding-fitted : (x : Crossing) → Forwarding x → isFitted (ownCoupler w (x .line)) ≡ true
   unfolding isForwarding
   forwarding-fitted x e =
-      let a = and-true (isListed passes start (m .count) (fromLine x) && not (cameOver (path start (fromLine x)) (x .line)) && passes x) (not (eqb (onArrival (m .count) (distance start (fromLine x))) 0)) e in
-      fitted-at x (and-true (isListed passes start (m .count) (fromLine x) && not (cameOver (path start (fromLine x)) (x .line))) (passes x) (a .0) .1)
+      let ahead : Bool = lists (fromLine x) && not (cameOver (path start (fromLine x)) (x .line)) in
+      let a = and-true (ahead && passes x) (not (eqb (countOn (fromLine x)) 0)) e in
+      fitted-at x (and-true ahead (passes x) (a .0) .1)
 
-  abbrev FirstSends : Crossing → Type 0
-  FirstSends = Sends w start (formOn w start m p)
-
-  sends-forwarding : (x : Crossing) → FirstSends x → isForwarding passes start (m .count) x ≡ true
+  sends-forwarding : (x : Crossing) → FirstSends x → Forwarding x
   sends-forwarding x s =
       let b = arrived (s .arrives) in
       let e = longer x (b .along) (s .ahead) (s .hands) in
       let z = step-lists x e (s .onward) (b .lists) (subst (λ (l : List ℕ). Hands w x l (s .onward)) (b .are) (s .hands)) in
       let d : cameOver (path start (fromLine x)) (x .line) ≡ false = ap (λ (y : List Crossing). cameOver y (x .line)) (sym (b .along)) ∙ s .ahead in
-      forwarding-is passes start (m .count) (x .direction) (x .line) (hands-side w ok x (s .hands)) (hands-line w ok x (s .hands)) ∙ rw (d, z .0) refl
+      forwarding-is passes asked (x .direction) (x .line) (hands-side w ok x (s .hands)) (hands-line w ok x (s .hands)) ∙ rw (d, z .0) refl
 
-  forwarding-sends : (x : Crossing) → x .direction < 2 → isForwarding passes start (m .count) x ≡ true → FirstSends x
+  forwarding-sends : (x : Crossing) → x .direction < 2 → Forwarding x → FirstSends x
   forwarding-sends x side e =
-      let n : x .line ≡ 0 → ⊥ = fitted-line (w .stores) (x .line) (ownCoupler w (x .line)) (fitted-set (w .stores) (w .site) ok (x .line) (forwarding-fitted x e)) in
-      let a = and-true (not (cameOver (path start (fromLine x)) (x .line))) (isListed passes start (m .count) (toLine x)) (sym (forwarding-is passes start (m .count) (x .direction) (x .line) side n) ∙ e) in
-      let d : cameOver (path start (fromLine x)) (x .line) ≡ false = not-true (cameOver (path start (fromLine x)) (x .line)) (a .0) in
+      let n : x .line ≡ 0 → ⊥ = fitted-line (w .stores) (x .line) (ownCoupler w (x .line)) (is-set w ok x (forwarding-fitted x e)) in
+      let back : Bool = cameOver (path start (fromLine x)) (x .line) in
+      let a = and-true (not back) (lists (toLine x)) (sym (forwarding-is passes asked (x .direction) (x .line) side n) ∙ e) in
+      let d : back ≡ false = not-true back (a .0) in
       let y = lists-step x (goes-on start (x .direction) (x .line) side n d) side (a .1) in
-      record { octets = formThere (fromLine x); onward = formThere (toLine x); way = path start (fromLine x); arrives = comes-by (distance start (fromLine x)) (fromLine x) refl (y .0); ahead = d; hands = y .1 }
+      record {
+        octets = formThere (fromLine x);
+        onward = formThere (toLine x);
+        way = path start (fromLine x);
+        arrives = comes-by (distance start (fromLine x)) (fromLine x) refl (y .0);
+        ahead = d;
+        hands = y .1;
+      }
 
-  pub sends-iff : (x : Crossing) → FirstSends x ↔ ((x .direction < 2) × (isForwarding passes start (m .count) x ≡ true))
+  pub sends-iff : (x : Crossing) → FirstSends x ↔ ((x .direction < 2) × Forwarding x)
   sends-iff x = ((λ s. (hands-side w ok x (s .hands), sends-forwarding x s)), λ y. forwarding-sends x (y .0) (y .1))
 
   -- and if so, once
@@ -213,14 +246,14 @@ module _ (w : AtWork) (ok : firstOf (siteTests (w .stores) (w .site)) ≡ Fine) 
       onward s = arrived (handed-on x (s .arrives) (s .ahead) (s .hands)) .are
 
   -- "the number of forwardings made on the site" is the number of the couplers' sendings
-  pub sends-so-many : Octets (w .site) → SoMany FirstSends (forwardings (w .stores) (w .site) (askedOf start m))
+  pub sends-so-many : Octets (w .site) → SoMany FirstSends (forwardings (w .stores) (w .site) asked)
   unfolding forwardings
-  sends-so-many o = so-many FirstSends (isForwarding passes start (m .count)) 255 same
+  sends-so-many o = so-many FirstSends (isForwarding passes asked) 255 same
     where
-      same : (x : Crossing) → FirstSends x ↔ Counted 255 (isForwarding passes start (m .count)) x
+      same : (x : Crossing) → FirstSends x ↔ Counted 255 (isForwarding passes asked) x
       same x = (
         (λ s.
-            let l : x .line < 256 = fitted-below (w .stores) (w .site) (x .line) o (fitted-set (w .stores) (w .site) ok (x .line) (s .hands .fitted)) in
+            let l : x .line < 256 = fitted-below (w .stores) (w .site) (x .line) o (is-set w ok x (s .hands .fitted)) in
             let y = sends-iff x .0 s in
             record { side = y .0; some = hands-line w ok x (s .hands); most = omega arith; holds = y .1 }),
         (λ c. sends-iff x .1 (c .side, c .holds)),

@@ -5,7 +5,8 @@ use mathlib.Core.Bool.{Bool, true, false, not, cond, _&&_}
 use mathlib.Core.List.{List, [], _∷_, _++_}
 use mathlib.Core.Path.{_≡_}
 use lib.ListN.{length, take}
-use Rattle.coupler.specs.Step.{Setting, settingOf, readBy, indication, Did, frame}
+use Rattle.coupler.specs.Setting.{settingOf}
+use Rattle.coupler.specs.Step.{Coupler, couplerBy, readBy, kindOf, indication, Did, frame}
 use Rattle.coupler.specs.declared.Memory.{Memory}
 use Rattle.coupler.specs.declared.Outcome.{Outcome}
 use Rattle.frame.specs.declared.Meaning.{Meaning}
@@ -39,11 +40,15 @@ formOn w line m p = cond (isIp w line) (routingOctets (indication m) p) (tp1Octe
 
 -- the coupler of a line as its record in the site sets it, with a frame received from a side (0 main, 1 sub); its main medium (0 TP1, 1 IP)
 -- is that of the line on its main side
-abbrev pub settingBy : AtWork → List ℕ → ℕ → Setting
-settingBy w r side = settingOf (lineOf r) (codesOf r) (tableOf (tableNumber r) (w .stores)) side (cond (isIp w (mainSide (lineOf r))) 1 0)
+abbrev pub settingBy : AtWork → List ℕ → ℕ → Coupler
+settingBy w r side = couplerBy (settingOf (lineOf r) side (cond (isIp w (mainSide (lineOf r))) 1 0)) (codesOf r) (tableOf (tableNumber r) (w .stores))
 
--- a crossing is made: the coupler is fitted, and a call of its step that is given these octets, received from the side that the crossing
--- leads from, leaves these others to be sent onward; "13 (room below 272)"
+-- the coupler that a crossing is over, the frame being received from the side that the crossing leads from
+abbrev pub couplerAt : AtWork → Crossing → Coupler
+couplerAt w x = settingBy w (ownCoupler w (x .line)) (x .direction)
+
+-- a crossing is made: the coupler is fitted, and a call of its step that is given these octets leaves these others to be sent onward; "13
+-- (room below 272)"
 pub record Hands (w : AtWork) (x : Crossing) (octets onward : List ℕ) : Type 0 where
   pub fitted : isFitted (ownCoupler w (x .line)) ≡ true
   pub room : List ℕ
@@ -51,7 +56,7 @@ pub record Hands (w : AtWork) (x : Crossing) (octets onward : List ℕ) : Type 0
   pub outcome : Outcome
   pub memory : Memory
   pub left : List ℕ
-  pub steps : Did (settingBy w (ownCoupler w (x .line)) (x .direction)) (w .memories (x .line)) octets room outcome memory left
+  pub steps : Did (couplerAt w x) (w .memories (x .line)) octets room outcome memory left
   pub sends : take (outcome .forwarded) left ≡ onward
   pub some : length onward ≡ 0 → ⊥
 
@@ -101,4 +106,4 @@ pub record ArrivesWith (w : AtWork) (start : ℕ) (m : Meaning) (p : List ℕ) (
 
 -- the query about a telegram of this meaning, put on the starting line
 abbrev pub askedOf : ℕ → Meaning → Query
-askedOf start m = queryOf start (cond (m .group) 1 0) (m .destination) (m .count)
+askedOf start m = queryOf start (kindOf m) (m .destination) (m .count)
