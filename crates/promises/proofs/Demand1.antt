@@ -10,10 +10,8 @@ use lib.ListN.{length, drop}
 use Rattle.cemi.specs.Answers.{messageValues, cemiNumbered}
 use Rattle.cemi.specs.Reading.{body, messageIn, cemiTests, readCemi, payloadIn, informationIn}
 use Rattle.cemi.specs.declared.Codes.{Codes}
-use Rattle.coupler.specs.Answers.{judgedNumbered}
-use Rattle.coupler.specs.Step.{judgedBy}
 use Rattle.frame.proofs.Numbers.{number-listed, number-some, number-apart}
-use Rattle.frame.specs.Answers.{Numbered, accepted, refused, meaningValues, writtenNumbered}
+use Rattle.frame.specs.Answers.{Numbered, accepted, refused, meaningValues, writtenNumbered, verdictNumbered}
 use Rattle.frame.specs.Order.{Test, firstOf, answerBy}
 use Rattle.frame.specs.declared.Verdict.the-variants.{Fine, Refuse}
 use Rattle.frame.specs.declared.Verdict.{Verdict}
@@ -23,7 +21,6 @@ use Rattle.frame.specs.declared.Refusal.{Refusal}
 use Rattle.frame.specs.declared.Written.{Written}
 use Rattle.octets.specs.Octets.{octetAt}
 use Rattle.octets.specs.Room.{over}
-use Rattle.routing.specs.Answers.{headerNumbered}
 use Rattle.knxnetip.specs.Header.{headerTests, readHeader}
 use Rattle.routing.specs.Reading.{message, routingTests, readRouting, routedPayload, routedInformation}
 use Rattle.site.specs.Stores.{Stores}
@@ -32,14 +29,14 @@ use Rattle.tp1.specs.Answers.{tp1Numbered}
 use Rattle.tp1.specs.Reading.{meaningIn, tp1Tests, readTp1, payloadIn as tp1Payload}
 use Rattle.tracer.proofs.Answers.{why-answers, why-reason}
 use Rattle.tracer.specs.Answers.{explanationNumbered}
-use Rattle.tracer.specs.Listing.{Query, linesListed, forwardings}
+use Rattle.tracer.specs.Listing.{linesListed, forwardings}
+use Rattle.tracer.specs.declared.Query.{Query}
 use Rattle.tracer.specs.Tracing.{traceTests, tracedBy, listBy, DidTrace}
 use Rattle.tracer.specs.Why.{whyOf, whyTests, answerWhy}
 use Rattle.tracer.specs.declared.Traced.{Traced}
 use Rattle.frame.specs.declared.Written.the-variants.{Put, Refused as Unwritten}
 use Rattle.tp1.specs.declared.Tp1Answer.the-variants.{Frame as Tp1-frame, Refused as Tp1-refused}
 use Rattle.cemi.specs.declared.CemiAnswer.the-variants.{Frame as Cemi-frame, Refused as Cemi-refused}
-use Rattle.routing.specs.declared.Header.the-variants.{Right, Wrong}
 use Rattle.tracer.specs.declared.Explanation.the-variants.{Refused as Unexplained}
 use Rattle.promises.proofs.Ends.{Ends, EndsNumbered, ends-by}
 
@@ -96,9 +93,9 @@ routing-ends s =
     reader-by Cemi-refused (Cemi-frame x) cemiNumbered (λ a. routedPayload a s ∷ routedInformation a s ∷ []) (messageValues x) refl (λ r. refl) (λ r. (refl, (refl, tt))) (routingTests s)
 
 -- a header, of whichever service is wanted
-pub header-ends : (service : ℕ) (s : List ℕ) → EndsNumbered [] (headerTests service s) (headerNumbered (readHeader service s))
+pub header-ends : (service : ℕ) (s : List ℕ) → EndsNumbered [] (headerTests service s) (verdictNumbered (readHeader service s))
 unfolding readHeader
-header-ends service s = ends-by refused (accepted []) (λ v. headerNumbered (answerBy Wrong Right v)) refl (λ r. refl) (headerTests service s)
+header-ends service s = ends-by refused (accepted []) verdictNumbered refl (λ r. refl) (headerTests service s)
 
 -- the writers: whatever the numbers, the payload and the room; a format gives its test of the numbers and its octets
 
@@ -126,8 +123,8 @@ module _ (ranged : Bool) (octets room after : List ℕ) where
   writer-refused (Unwritten r) w z = w .left
 
 -- a site with its stores: "well-formed exactly if it and its stores draw none of 15 to 18"
-pub site-ends : (st : Stores) (site : List ℕ) → EndsNumbered [] (siteTests st site) (judgedNumbered (judgedBy (firstOf (siteTests st site))))
-site-ends st site = ends-by refused (accepted []) (λ v. judgedNumbered (judgedBy v)) refl (λ r. refl) (siteTests st site)
+pub site-ends : (st : Stores) (site : List ℕ) → EndsNumbered [] (siteTests st site) (verdictNumbered (firstOf (siteTests st site)))
+site-ends st site = ends-by refused (accepted []) verdictNumbered refl (λ r. refl) (siteTests st site)
 
 -- the tracer: whatever the site, the stores, the query and the room; a refusal has no line and no forwarding ..
 abbrev pub refusedTrace : Refusal → Traced

@@ -11,9 +11,9 @@ use native.Mathlib.Omega.{arith}
 use lib.Dec.{eqb, leb}
 use lib.ListN.{length, take, drop}
 use borrow.Author.Tests.{leb-true, eqb-true, le-ltb}
-use Rattle.coupler.specs.Answers.{passageNumber}
-use Rattle.coupler.specs.Passing.{doesPass}
-use Rattle.coupler.specs.declared.Passage.{Passage}
+use Rattle.passing.specs.Answers.{passageNumber}
+use Rattle.passing.specs.Passing.{doesPass}
+use Rattle.passing.specs.declared.Passage.{Passage}
 use Rattle.frame.proofs.Numbers.{number-some}
 use Rattle.frame.proofs.Order.{passed-iff}
 use Rattle.frame.specs.Answers.{Numbered, accepted}
@@ -35,8 +35,11 @@ use Rattle.tracer.proofs.Paths.{by-cases, path-same, distance-four}
 use Rattle.tracer.proofs.RoomList.{Rising, octetsOf, rising-one, listed-at, listed-iff, lasts-iff, linesOn, lines-octets, lines-count, lines-rise, lines-are}
 use Rattle.tracer.specs.Answers.{explanationNumbered}
 use Rattle.tracer.specs.Lines.{mainSide, Crossing, path, distance}
-use Rattle.tracer.specs.Listing.{isListed, Query, crossingPasses, allPass, onArrival, listed, linesListed}
-use Rattle.tracer.specs.Tracing.{isQuery, traceTests, tracedBy, listBy, DidTrace}
+use Rattle.tracer.specs.Query.{onArrival}
+use Rattle.tracer.specs.Listing.{isListed, crossingPasses, allPass, listed, linesListed}
+use Rattle.tracer.specs.declared.Query.{Query}
+use Rattle.tracer.specs.Query.{isQuery}
+use Rattle.tracer.specs.Tracing.{traceTests, tracedBy, listBy, DidTrace}
 use Rattle.tracer.specs.Why.{whyOf, whyTests, answerWhy}
 use Rattle.tracer.specs.declared.Explanation.the-variants.{Reached, NotReached, Refused}
 use Rattle.tracer.specs.declared.Explanation.{Explanation}
@@ -51,7 +54,7 @@ Reachable st site q line =
 
 -- "Each listed line takes three octets: line, count on arrival (7, or c minus d), couplers crossed."
 abbrev pub lineOctets : Query → ℕ → List ℕ
-lineOctets q line = line ∷ onArrival (q .count) (length (path (q .start) line)) ∷ length (path (q .start) line) ∷ []
+lineOctets q line = line ∷ onArrival q (length (path (q .start) line)) ∷ length (path (q .start) line) ∷ []
 
 -- what a planner signs for
 pub record Signed (st : Stores) (site : List ℕ) (q : Query) (room : List ℕ) (answer : Traced) (room′ : List ℕ) : Type 0 where
@@ -143,7 +146,7 @@ at-most-255-records = site-most
 
 -- what a coupler makes of the telegram when it comes with this count: its first reason not to hand it on
 abbrev pub reasonOf : Stores → List ℕ → Query → Crossing → ℕ → Passage
-reasonOf st site q x count = passageAt st (eqb (q .kind) 1) (q .destination) (recordsOf site) (x .direction) (x .line) count
+reasonOf st site q x count = passageAt st (q .kind) (q .destination) (recordsOf site) (x .direction) (x .line) count
 
 -- what is said of a line that the telegram does not reach
 pub record Stops (st : Stores) (site : List ℕ) (q : Query) (line : ℕ) (answer : Numbered) : Type 0 where
@@ -156,9 +159,9 @@ pub record Stops (st : Stores) (site : List ℕ) (q : Query) (line : ℕ) (answe
   pub passed : allPass (crossingPasses st site q) ahead ≡ true
   pub lasting : (q .count ≡ 7) ⊎ (length ahead ≤ q .count)
   -- .. and is not handed on, with the count on arrival there
-  pub stopped : doesPass (reasonOf st site q here (onArrival (q .count) (length ahead))) ≡ false
+  pub stopped : doesPass (reasonOf st site q here (onArrival q (length ahead))) ≡ false
   -- the answer is number 0 with three values: the reason, the coupler's line, the direction of travel
-  pub told : answer ≡ accepted (passageNumber (reasonOf st site q here (onArrival (q .count) (length ahead))) ∷ here .line ∷ here .direction ∷ [])
+  pub told : answer ≡ accepted (passageNumber (reasonOf st site q here (onArrival q (length ahead))) ∷ here .line ∷ here .direction ∷ [])
 
 -- in a well-formed site, and with kind and count in range, nothing is refused
 explained : (st : Stores) (site : List ℕ) (q : Query) → NoneOf (siteTests st site) → isQuery q ≡ true → (line : ℕ) → answerWhy st site q line ≡ whyOf st site q line
@@ -209,7 +212,7 @@ stops-one {st} {site} {q} s t =
     s .told ∙ ap (λ (y : Crossing). values y (length (s .ahead))) (x .0) ∙ ap (values (t .here)) (x .1) ∙ sym (t .told)
   where
     values : Crossing → ℕ → Numbered
-    values y n = accepted (passageNumber (reasonOf st site q y (onArrival (q .count) n)) ∷ y .line ∷ y .direction ∷ [])
+    values y n = accepted (passageNumber (reasonOf st site q y (onArrival q n)) ∷ y .line ∷ y .direction ∷ [])
 
     behind : {line : ℕ} {n : Numbered} (s : Stops st site q line n) → StopsBehind st site q 0 (s .ahead) (s .here)
     behind s =

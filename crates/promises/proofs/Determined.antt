@@ -53,10 +53,10 @@ use Rattle.cemi.proofs.in_range.Kinds as cemi-in-range-kinds
 use Rattle.cemi.proofs.in_range.Reads as cemi-in-range-reads
 use Rattle.cemi.proofs.write.Kinds as cemi-write-kinds
 use Rattle.cemi.proofs.write.Reads as cemi-write-reads
-use Rattle.routing.proofs.read_header.Kinds as routing-read-header-kinds
-use Rattle.routing.proofs.read_header.Reads as routing-read-header-reads
-use Rattle.routing.proofs.lay_header.Kinds as routing-lay-header-kinds
-use Rattle.routing.proofs.lay_header.Reads as routing-lay-header-reads
+use Rattle.knxnetip.proofs.read_header.Kinds as knxnetip-read-header-kinds
+use Rattle.knxnetip.proofs.read_header.Reads as knxnetip-read-header-reads
+use Rattle.knxnetip.proofs.lay_header.Kinds as knxnetip-lay-header-kinds
+use Rattle.knxnetip.proofs.lay_header.Reads as knxnetip-lay-header-reads
 use Rattle.routing.proofs.read.Kinds as routing-read-kinds
 use Rattle.routing.proofs.read.Reads as routing-read-reads
 use Rattle.routing.proofs.payload.Kinds as routing-payload-kinds
@@ -65,16 +65,20 @@ use Rattle.routing.proofs.information.Kinds as routing-information-kinds
 use Rattle.routing.proofs.information.Reads as routing-information-reads
 use Rattle.routing.proofs.write.Kinds as routing-write-kinds
 use Rattle.routing.proofs.write.Reads as routing-write-reads
-use Rattle.coupler.proofs.settings.are_codes.Kinds as coupler-are-codes-kinds
-use Rattle.coupler.proofs.settings.are_codes.Reads as coupler-are-codes-reads
-use Rattle.coupler.proofs.settings.asks_table.Kinds as coupler-asks-table-kinds
-use Rattle.coupler.proofs.settings.asks_table.Reads as coupler-asks-table-reads
-use Rattle.coupler.proofs.settings.table_fits.Kinds as coupler-table-fits-kinds
-use Rattle.coupler.proofs.settings.table_fits.Reads as coupler-table-fits-reads
-use Rattle.coupler.proofs.may_pass.Kinds as coupler-may-pass-kinds
-use Rattle.coupler.proofs.may_pass.Reads as coupler-may-pass-reads
-use Rattle.coupler.proofs.hopped_count.Kinds as coupler-hopped-count-kinds
-use Rattle.coupler.proofs.hopped_count.Reads as coupler-hopped-count-reads
+use Rattle.passing.proofs.settings.are_codes.Kinds as passing-are-codes-kinds
+use Rattle.passing.proofs.settings.are_codes.Reads as passing-are-codes-reads
+use Rattle.passing.proofs.settings.asks_table.Kinds as passing-asks-table-kinds
+use Rattle.passing.proofs.settings.asks_table.Reads as passing-asks-table-reads
+use Rattle.passing.proofs.settings.table_fits.Kinds as passing-table-fits-kinds
+use Rattle.passing.proofs.settings.table_fits.Reads as passing-table-fits-reads
+use Rattle.passing.proofs.is_own.Kinds as passing-is-own-kinds
+use Rattle.passing.proofs.is_own.Reads as passing-is-own-reads
+use Rattle.passing.proofs.stays.Kinds as passing-stays-kinds
+use Rattle.passing.proofs.stays.Reads as passing-stays-reads
+use Rattle.passing.proofs.may_pass.Kinds as passing-may-pass-kinds
+use Rattle.passing.proofs.may_pass.Reads as passing-may-pass-reads
+use Rattle.passing.proofs.hopped_count.Kinds as passing-hopped-count-kinds
+use Rattle.passing.proofs.hopped_count.Reads as passing-hopped-count-reads
 use Rattle.coupler.proofs.hand_on.Kinds as coupler-hand-on-kinds
 use Rattle.coupler.proofs.hand_on.Reads as coupler-hand-on-reads
 use Rattle.coupler.proofs.nothing_remembered.Kinds as coupler-nothing-remembered-kinds
@@ -97,12 +101,8 @@ use Rattle.klumdray.proofs.klumdray_routing_write.Kinds as klumdray-routing-wri
 use Rattle.klumdray.proofs.klumdray_routing_write.Reads as klumdray-routing-write-reads
 use Rattle.klumdray.proofs.klumdray_step.Kinds as klumdray-step-kinds
 use Rattle.klumdray.proofs.klumdray_step.Reads as klumdray-step-reads
-use Rattle.coupler.proofs.code_passes.Kinds as coupler-code-passes-kinds
-use Rattle.coupler.proofs.code_passes.Reads as coupler-code-passes-reads
-use Rattle.coupler.proofs.class_of.Kinds as coupler-class-of-kinds
-use Rattle.coupler.proofs.class_of.Reads as coupler-class-of-reads
-use Rattle.coupler.proofs.why_not.Kinds as coupler-why-not-kinds
-use Rattle.coupler.proofs.why_not.Reads as coupler-why-not-reads
+use Rattle.passing.proofs.why_not.Kinds as passing-why-not-kinds
+use Rattle.passing.proofs.why_not.Reads as passing-why-not-reads
 use Rattle.site.proofs.stores.table_of.Kinds as site-table-of-kinds
 use Rattle.site.proofs.stores.table_of.Reads as site-table-of-reads
 use Rattle.site.proofs.judge.Kinds as site-judge-kinds
@@ -198,13 +198,15 @@ cemi-in-range-stated = record { determines = λ κs args r₁ r₂ w₁ w₂ x y
 pub cemi-write-stated : Stated cemi-write-kinds.ps cemi-write-kinds.r cemi-write-reads.Pre cemi-write-reads.Post (λ κs a. cemi-write-reads.ensures κs a tt)
 cemi-write-stated = record { determines = λ κs args r₁ r₂ w₁ w₂ x y. let e = wrote-one x y in (e .0, λ i. (tt, (tt, (tt, (e .1 i, tt))))); free = λ κs args. tt; whole = λ κs args r e w. refl }
 
+-- knxnetip
+
+pub knxnetip-read-header-stated : Stated knxnetip-read-header-kinds.ps knxnetip-read-header-kinds.r knxnetip-read-header-reads.Pre knxnetip-read-header-reads.Post (λ κs a. knxnetip-read-header-reads.ensures κs a tt)
+knxnetip-read-header-stated = record { determines = λ κs args r₁ r₂ w₁ w₂ x y. (x ∙ sym y, refl); free = λ κs args. tt; whole = λ κs args r e w. refl }
+
+pub knxnetip-lay-header-stated : Stated knxnetip-lay-header-kinds.ps knxnetip-lay-header-kinds.r knxnetip-lay-header-reads.Pre knxnetip-lay-header-reads.Post (λ κs a. knxnetip-lay-header-reads.ensures κs a tt)
+knxnetip-lay-header-stated = record { determines = λ κs args r₁ r₂ w₁ w₂ x y. (refl, λ i. (tt, (tt, ((x ∙ sym y) i, tt)))); free = λ κs args. tt; whole = λ κs args r e w. refl }
+
 -- routing
-
-pub routing-read-header-stated : Stated routing-read-header-kinds.ps routing-read-header-kinds.r routing-read-header-reads.Pre routing-read-header-reads.Post (λ κs a. routing-read-header-reads.ensures κs a tt)
-routing-read-header-stated = record { determines = λ κs args r₁ r₂ w₁ w₂ x y. (x ∙ sym y, refl); free = λ κs args. tt; whole = λ κs args r e w. refl }
-
-pub routing-lay-header-stated : Stated routing-lay-header-kinds.ps routing-lay-header-kinds.r routing-lay-header-reads.Pre routing-lay-header-reads.Post (λ κs a. routing-lay-header-reads.ensures κs a tt)
-routing-lay-header-stated = record { determines = λ κs args r₁ r₂ w₁ w₂ x y. (refl, λ i. (tt, (tt, ((x ∙ sym y) i, tt)))); free = λ κs args. tt; whole = λ κs args r e w. refl }
 
 pub routing-read-stated : Stated routing-read-kinds.ps routing-read-kinds.r routing-read-reads.Pre routing-read-reads.Post (λ κs a. routing-read-reads.ensures κs a tt)
 routing-read-stated = record { determines = λ κs args r₁ r₂ w₁ w₂ x y. (x ∙ sym y, refl); free = λ κs args. tt; whole = λ κs args r e w. refl }
@@ -218,40 +220,42 @@ routing-information-stated = record { determines = λ κs args r₁ r₂ w₁ w�
 pub routing-write-stated : Stated routing-write-kinds.ps routing-write-kinds.r routing-write-reads.Pre routing-write-reads.Post (λ κs a. routing-write-reads.ensures κs a tt)
 routing-write-stated = record { determines = λ κs args r₁ r₂ w₁ w₂ x y. let e = wrote-one x y in (e .0, λ i. (tt, (tt, (e .1 i, tt)))); free = λ κs args. tt; whole = λ κs args r e w. refl }
 
+-- passing
+
+pub passing-are-codes-stated : Stated passing-are-codes-kinds.ps passing-are-codes-kinds.r passing-are-codes-reads.Pre passing-are-codes-reads.Post (λ κs a. passing-are-codes-reads.ensures κs a tt)
+passing-are-codes-stated = record { determines = λ κs args r₁ r₂ w₁ w₂ x y. (x ∙ sym y, refl); free = λ κs args. tt; whole = λ κs args r e w. refl }
+
+pub passing-asks-table-stated : Stated passing-asks-table-kinds.ps passing-asks-table-kinds.r passing-asks-table-reads.Pre passing-asks-table-reads.Post (λ κs a. passing-asks-table-reads.ensures κs a tt)
+passing-asks-table-stated = record { determines = λ κs args r₁ r₂ w₁ w₂ x y. (x ∙ sym y, refl); free = λ κs args. tt; whole = λ κs args r e w. refl }
+
+pub passing-table-fits-stated : Stated passing-table-fits-kinds.ps passing-table-fits-kinds.r passing-table-fits-reads.Pre passing-table-fits-reads.Post (λ κs a. passing-table-fits-reads.ensures κs a tt)
+passing-table-fits-stated = record { determines = λ κs args r₁ r₂ w₁ w₂ x y. (x ∙ sym y, refl); free = λ κs args. tt; whole = λ κs args r e w. refl }
+
+pub passing-may-pass-stated : Stated passing-may-pass-kinds.ps passing-may-pass-kinds.r passing-may-pass-reads.Pre passing-may-pass-reads.Post (λ κs a. passing-may-pass-reads.ensures κs a tt)
+passing-may-pass-stated = record { determines = λ κs args r₁ r₂ w₁ w₂ x y. (x ∙ sym y, refl); free = λ κs args. tt; whole = λ κs args r e w. refl }
+
+pub passing-why-not-stated : Stated passing-why-not-kinds.ps passing-why-not-kinds.r passing-why-not-reads.Pre passing-why-not-reads.Post (λ κs a. passing-why-not-reads.ensures κs a tt)
+passing-why-not-stated = record { determines = λ κs args r₁ r₂ w₁ w₂ x y. (x ∙ sym y, refl); free = λ κs args. tt; whole = λ κs args r e w. refl }
+
+pub passing-hopped-count-stated : Stated passing-hopped-count-kinds.ps passing-hopped-count-kinds.r passing-hopped-count-reads.Pre passing-hopped-count-reads.Post (λ κs a. passing-hopped-count-reads.ensures κs a tt)
+passing-hopped-count-stated = record { determines = λ κs args r₁ r₂ w₁ w₂ x y. (x ∙ sym y, refl); free = λ κs args. tt; whole = λ κs args r e w. refl }
+
+pub passing-stays-stated : Stated passing-stays-kinds.ps passing-stays-kinds.r passing-stays-reads.Pre passing-stays-reads.Post (λ κs a. passing-stays-reads.ensures κs a tt)
+passing-stays-stated = record { determines = λ κs args r₁ r₂ w₁ w₂ x y. (x ∙ sym y, refl); free = λ κs args. tt; whole = λ κs args r e w. refl }
+
+pub passing-is-own-stated : Stated passing-is-own-kinds.ps passing-is-own-kinds.r passing-is-own-reads.Pre passing-is-own-reads.Post (λ κs a. passing-is-own-reads.ensures κs a tt)
+passing-is-own-stated = record { determines = λ κs args r₁ r₂ w₁ w₂ x y. (x ∙ sym y, refl); free = λ κs args. tt; whole = λ κs args r e w. refl }
+
 -- coupler
 
-pub coupler-are-codes-stated : Stated coupler-are-codes-kinds.ps coupler-are-codes-kinds.r coupler-are-codes-reads.Pre coupler-are-codes-reads.Post (λ κs a. coupler-are-codes-reads.ensures κs a tt)
-coupler-are-codes-stated = record { determines = λ κs args r₁ r₂ w₁ w₂ x y. (x ∙ sym y, refl); free = λ κs args. tt; whole = λ κs args r e w. refl }
-
-pub coupler-asks-table-stated : Stated coupler-asks-table-kinds.ps coupler-asks-table-kinds.r coupler-asks-table-reads.Pre coupler-asks-table-reads.Post (λ κs a. coupler-asks-table-reads.ensures κs a tt)
-coupler-asks-table-stated = record { determines = λ κs args r₁ r₂ w₁ w₂ x y. (x ∙ sym y, refl); free = λ κs args. tt; whole = λ κs args r e w. refl }
-
-pub coupler-table-fits-stated : Stated coupler-table-fits-kinds.ps coupler-table-fits-kinds.r coupler-table-fits-reads.Pre coupler-table-fits-reads.Post (λ κs a. coupler-table-fits-reads.ensures κs a tt)
-coupler-table-fits-stated = record { determines = λ κs args r₁ r₂ w₁ w₂ x y. (x ∙ sym y, refl); free = λ κs args. tt; whole = λ κs args r e w. refl }
-
-pub coupler-may-pass-stated : Stated coupler-may-pass-kinds.ps coupler-may-pass-kinds.r coupler-may-pass-reads.Pre coupler-may-pass-reads.Post (λ κs a. coupler-may-pass-reads.ensures κs a tt)
-coupler-may-pass-stated = record { determines = λ κs args r₁ r₂ w₁ w₂ x y. (x ∙ sym y, refl); free = λ κs args. tt; whole = λ κs args r e w. refl }
-
-pub coupler-code-passes-stated : Stated coupler-code-passes-kinds.ps coupler-code-passes-kinds.r coupler-code-passes-reads.Pre coupler-code-passes-reads.Post (λ κs a. coupler-code-passes-reads.ensures κs a tt)
-coupler-code-passes-stated = record { determines = λ κs args r₁ r₂ w₁ w₂ x y. (x ∙ sym y, refl); free = λ κs args. tt; whole = λ κs args r e w. refl }
-
-pub coupler-class-of-stated : Stated coupler-class-of-kinds.ps coupler-class-of-kinds.r coupler-class-of-reads.Pre coupler-class-of-reads.Post (λ κs a. coupler-class-of-reads.ensures κs a tt)
-coupler-class-of-stated = record { determines = λ κs args r₁ r₂ w₁ w₂ x y. (x .0 ∙ sym (y .0), refl); free = λ κs args. tt; whole = λ κs args r e w. refl }
-
-pub coupler-why-not-stated : Stated coupler-why-not-kinds.ps coupler-why-not-kinds.r coupler-why-not-reads.Pre coupler-why-not-reads.Post (λ κs a. coupler-why-not-reads.ensures κs a tt)
-coupler-why-not-stated = record { determines = λ κs args r₁ r₂ w₁ w₂ x y. (x ∙ sym y, refl); free = λ κs args. tt; whole = λ κs args r e w. refl }
-
-pub coupler-hopped-count-stated : Stated coupler-hopped-count-kinds.ps coupler-hopped-count-kinds.r coupler-hopped-count-reads.Pre coupler-hopped-count-reads.Post (λ κs a. coupler-hopped-count-reads.ensures κs a tt)
-coupler-hopped-count-stated = record { determines = λ κs args r₁ r₂ w₁ w₂ x y. (x ∙ sym y, refl); free = λ κs args. tt; whole = λ κs args r e w. refl }
-
 pub coupler-hand-on-stated : Stated coupler-hand-on-kinds.ps coupler-hand-on-kinds.r coupler-hand-on-reads.Pre coupler-hand-on-reads.Post (λ κs a. coupler-hand-on-reads.ensures κs a tt)
-coupler-hand-on-stated = record { determines = λ κs args r₁ r₂ w₁ w₂ x y. let e = handed-one x y in (e .0, λ i. (tt, (tt, (tt, (tt, (tt, (tt, (tt, (e .1 i, tt))))))))); free = λ κs args. tt; whole = λ κs args r e w. refl }
+coupler-hand-on-stated = record { determines = λ κs args r₁ r₂ w₁ w₂ x y. let e = handed-one x y in (e .0, λ i. (tt, (tt, (tt, (tt, (tt, (e .1 i, tt))))))); free = λ κs args. tt; whole = λ κs args r e w. refl }
 
 pub coupler-nothing-remembered-stated : Stated coupler-nothing-remembered-kinds.ps coupler-nothing-remembered-kinds.r coupler-nothing-remembered-reads.Pre coupler-nothing-remembered-reads.Post (λ κs a. coupler-nothing-remembered-reads.ensures κs a tt)
 coupler-nothing-remembered-stated = record { determines = λ κs args r₁ r₂ w₁ w₂ x y. (x ∙ sym y, refl); free = λ κs args. tt; whole = λ κs args r e w. refl }
 
 pub coupler-step-stated : Stated coupler-step-kinds.ps coupler-step-kinds.r coupler-step-reads.Pre coupler-step-reads.Post (λ κs a. coupler-step-reads.ensures κs a tt)
-coupler-step-stated = record { determines = λ κs args r₁ r₂ w₁ w₂ x y. let e = did-one x y in ((λ i. record { outcome = e .0 i; memory = e .1 .0 i }), λ i. (tt, (tt, (tt, (tt, (tt, (tt, (tt, (e .1 .1 i, tt))))))))); free = λ κs args. tt; whole = λ κs args r e w. refl }
+coupler-step-stated = record { determines = λ κs args r₁ r₂ w₁ w₂ x y. let e = did-one x y in ((λ i. record { outcome = e .0 i; memory = e .1 .0 i }), λ i. (tt, (tt, (tt, (tt, (tt, (e .1 .1 i, tt))))))); free = λ κs args. tt; whole = λ κs args r e w. refl }
 
 -- site
 
@@ -273,7 +277,7 @@ pub tracer-main-side-stated : Stated tracer-main-side-kinds.ps tracer-main-side-
 tracer-main-side-stated = record { determines = λ κs args r₁ r₂ w₁ w₂ x y. (x ∙ sym y, refl); free = λ κs args. tt; whole = λ κs args r e w. refl }
 
 pub tracer-trace-stated : Stated tracer-trace-kinds.ps tracer-trace-kinds.r tracer-trace-reads.Pre tracer-trace-reads.Post (λ κs a. tracer-trace-reads.ensures κs a tt)
-tracer-trace-stated = record { determines = λ κs args r₁ r₂ w₁ w₂ x y. let e = traced-one x y in (e .0, λ i. (tt, (tt, (tt, (tt, (tt, (tt, (tt, (e .1 i, tt))))))))); free = λ κs args. tt; whole = λ κs args r e w. refl }
+tracer-trace-stated = record { determines = λ κs args r₁ r₂ w₁ w₂ x y. let e = traced-one x y in (e .0, λ i. (tt, (tt, (tt, (tt, (e .1 i, tt)))))); free = λ κs args. tt; whole = λ κs args r e w. refl }
 
 pub tracer-why-stated : Stated tracer-why-kinds.ps tracer-why-kinds.r tracer-why-reads.Pre tracer-why-reads.Post (λ κs a. tracer-why-reads.ensures κs a tt)
 tracer-why-stated = record { determines = λ κs args r₁ r₂ w₁ w₂ x y. (x ∙ sym y, refl); free = λ κs args. tt; whole = λ κs args r e w. refl }
@@ -307,7 +311,7 @@ pub klumdray-routing-write-stated : Stated klumdray-routing-write-kinds.ps klumd
 klumdray-routing-write-stated = record { determines = λ κs args r₁ r₂ w₁ w₂ x y. let e = wrote-number-one x y in (e .0, λ i. (tt, (tt, (tt, (tt, (tt, (tt, (tt, (tt, (tt, (tt, (e .1 i, tt)))))))))))); free = λ κs args. tt; whole = λ κs args r e w. refl }
 
 pub klumdray-step-stated : Stated klumdray-step-kinds.ps klumdray-step-kinds.r klumdray-step-reads.Pre klumdray-step-reads.Post (λ κs a. klumdray-step-reads.ensures κs a tt)
-klumdray-step-stated = record { determines = λ κs args r₁ r₂ w₁ w₂ x y. let e = stepped-one x y in (e .0, λ i. (tt, (tt, (tt, (tt, (tt, (e .1 .0 i, (tt, (e .1 .1 i, tt))))))))); free = λ κs args. tt; whole = λ κs args r e w. refl }
+klumdray-step-stated = record { determines = λ κs args r₁ r₂ w₁ w₂ x y. let e = stepped-one x y in (e .0, λ i. (tt, (tt, (tt, (e .1 .0 i, (tt, (e .1 .1 i, tt))))))); free = λ κs args. tt; whole = λ κs args r e w. refl }
 
 pub klumdray-trace-stated : Stated klumdray-trace-kinds.ps klumdray-trace-kinds.r klumdray-trace-reads.Pre klumdray-trace-reads.Post (λ κs a. klumdray-trace-reads.ensures κs a tt)
 klumdray-trace-stated = record { determines = λ κs args r₁ r₂ w₁ w₂ x y. let e = traced-through-one x y in (e .0, λ i. (tt, (tt, (tt, (tt, (tt, (tt, (tt, (e .1 i, tt))))))))); free = λ κs args. tt; whole = λ κs args r e w. refl }

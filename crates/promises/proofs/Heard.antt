@@ -19,7 +19,7 @@ use Rattle.cemi.specs.declared.CemiAnswer.the-variants.{Frame as Message-is, Re
 use Rattle.cemi.specs.declared.CemiAnswer.{CemiAnswer}
 use Rattle.cemi.specs.declared.Codes.the-variants.{IndicationOnly}
 use Rattle.cemi.specs.declared.Message.{Message}
-use Rattle.coupler.specs.Step.{Setting, settingTests, fromIp, frame, nothing, heardTp1, heardIp, readBy, readerTests, stepTests, after, heard, indication}
+use Rattle.coupler.specs.Step.{Coupler, settingTests, fromIp, frame, nothing, heardTp1, heardIp, readBy, readerTests, stepTests, after, heard, indication}
 use Rattle.frame.proofs.Order.{passed-iff, refused-iff, first-passed, first-refused}
 use Rattle.frame.specs.Order.{firstOf, answerBy, NoneOf, FirstIs}
 use Rattle.frame.specs.declared.Verdict.the-variants.{Fine, Refuse}
@@ -46,7 +46,7 @@ IsFrameOn s m p false = IsFrame s m p
 IsFrameOn s m p true = (information : List ℕ) × IsDatagram s (indication m) information p
 
 -- a coupler hears a frame: nothing of its settings, side, medium and room is refused, and the octets are that frame
-pub record Hears (k : Setting) (s : List ℕ) (room : ℕ) (m : Meaning) (p : List ℕ) : Type 0 where
+pub record Hears (k : Coupler) (s : List ℕ) (room : ℕ) (m : Meaning) (p : List ℕ) : Type 0 where
   pub set : NoneOf (settingTests k room)
   pub is : IsFrameOn s m p (fromIp k)
 
@@ -138,7 +138,7 @@ by-order true s = go (messageIn (octetAt (message s) 0) (body (message s))) refl
         by Fine = refl
         by (Refuse r) = refl
 
-module _ (k : Setting) (s : List ℕ) (room : ℕ) where
+module _ (k : Coupler) (s : List ℕ) (room : ℕ) where
   -- a frame is heard exactly if ..
   pub hears-iff : (m : Meaning) (p : List ℕ) → Octets s → heard k s room ≡ frame m p ↔ Hears k s room m p
   unfolding heard

@@ -9,7 +9,8 @@ use lib.ListN.{length, take, replicate, length-replicate}
 use borrow.Author.Tests.{le-ltb}
 use Rattle.coupler.specs.Memory.{kept, recalled, noMemory, sideOf}
 use Rattle.coupler.specs.Series.{Input, Done, Follows}
-use Rattle.coupler.specs.Step.{Setting, settingOf, Heard, frame, nothing, heard, outcomeOf, sent, memoryAfter, Did}
+use Rattle.coupler.specs.Setting.{settingOf}
+use Rattle.coupler.specs.Step.{Coupler, couplerBy, Heard, frame, nothing, heard, outcomeOf, sent, memoryAfter, Did}
 use Rattle.coupler.specs.declared.Memory.{Memory}
 use Rattle.coupler.specs.declared.Outcome.{Outcome}
 use Rattle.frame.proofs.Writing.{put-iff, wrote-over}
@@ -23,6 +24,7 @@ use Rattle.frame.specs.Valid.{inRange}
 use Rattle.frame.specs.Writing.{Wrote}
 use Rattle.frame.specs.declared.Meaning.{Meaning}
 use Rattle.frame.specs.declared.Written.{Written}
+use Rattle.journey.proofs.Handing.{sent-size}
 use Rattle.octets.specs.Octets.{octetAt}
 use Rattle.octets.specs.Room.{over}
 use Rattle.site.specs.Stores.{Stores, stores}
@@ -34,8 +36,10 @@ use Rattle.tp1.specs.Reading.{readTp1}
 use Rattle.tp1.specs.declared.Tp1Answer.{Tp1Answer}
 use Rattle.tracer.proofs.Standing.{stands-iff}
 use Rattle.tracer.specs.Lines.{path, distance}
-use Rattle.tracer.specs.Listing.{Query, queryOf, StandsIn, listed, linesListed}
-use Rattle.tracer.specs.Tracing.{isQuery, traceTests, tracedBy, listBy, DidTrace}
+use Rattle.tracer.specs.Query.{queryOf, isQuery}
+use Rattle.tracer.specs.Listing.{StandsIn, listed, linesListed}
+use Rattle.tracer.specs.declared.Query.{Query}
+use Rattle.tracer.specs.Tracing.{traceTests, tracedBy, listBy, DidTrace}
 use Rattle.tracer.specs.declared.Traced.{Traced}
 use Rattle.promises.specs.Telegrams.{Case, _hears_and_, Does, sends, Holds, Every, P1, P2, P7, P8, P10, P12a, cases, fromIpOpen, broadcastOpen, closedRow, fourCouplers}
 use Rattle.promises.proofs.Demand3.{lists-exactly}
@@ -88,8 +92,8 @@ module _ (read : List ℕ → Tp1Answer) (meets : (s : List ℕ) → read s ≡ 
 
 -- "a coupler that forwards nothing or copies octets unchanged (demand 2, P10)"
 
-abbrev sentBy : Does → List ℕ
-sentBy (sends acknowledgement octets) = octets
+abbrev sentIn : Does → List ℕ
+sentIn (sends acknowledgement octets) = octets
 
 recalls-none : recalled (sideOf noMemory 0) ≡ []
 unfolding recalled kept
@@ -103,27 +107,23 @@ lent-size : length lent ≡ 272
 unfolding lent
 lent-size = length-replicate {A = ℕ} 272 0
 
-forwarded-size : (k : Setting) (remembered : List ℕ) (h : Heard) → outcomeOf k remembered h .forwarded ≡ length (sent k remembered h)
-forwarded-size k remembered (frame x p) = refl
-forwarded-size k remembered (nothing r) = refl
-
 -- what a step that meets the contract does in a case of the list: it forwards just the octets that the case has
 record Forwards (octets : List ℕ) (d : Done) : Type 0 where
   size : d .outcome .forwarded ≡ length octets
   front : d .room ≡ over octets lent
 
-forwards : (k : Setting) (s : List ℕ) (does : Does) → k .side ≡ 0 → Holds (k hears s and does) → (d : Done) → Did k noMemory s lent (d .outcome) (d .memory) (d .room) → Forwards (sentBy does) d
+forwards : (k : Coupler) (s : List ℕ) (does : Does) → k .setting .side ≡ 0 → Holds (k hears s and does) → (d : Done) → Did k noMemory s lent (d .outcome) (d .memory) (d .room) → Forwards (sentIn does) d
 forwards k s does e h d w =
-    let none : recalled (sideOf noMemory (k .side)) ≡ [] = ap (λ (n : ℕ). recalled (sideOf noMemory n)) e ∙ recalls-none in
-    let is : sent k (recalled (sideOf noMemory (k .side))) (heard k s (length lent)) ≡ sentBy does =
-    ap (λ (l : List ℕ). sent k l (heard k s (length lent))) none ∙ ap (λ (n : ℕ). sent k [] (heard k s n)) lent-size ∙ ap sentBy (h .1) in
+    let none : recalled (sideOf noMemory (k .setting .side)) ≡ [] = ap (λ (n : ℕ). recalled (sideOf noMemory n)) e ∙ recalls-none in
+    let is : sent k (recalled (sideOf noMemory (k .setting .side))) s (length lent) ≡ sentIn does =
+    ap (λ (l : List ℕ). sent k l s (length lent)) none ∙ ap (λ (n : ℕ). sent k [] s n) lent-size ∙ ap sentIn (h .1) in
     record {
-      size = ap (λ (o : Outcome). o .forwarded) (w .handed .outcome) ∙ forwarded-size k _ (heard k s (length lent)) ∙ ap length is;
+      size = ap (λ (o : Outcome). o .forwarded) (w .handed .outcome) ∙ sent-size k _ s (heard k s (length lent)) ∙ ap length is;
       front = w .handed .left ∙ ap (λ (l : List ℕ). over l lent) is;
     }
 
-abbrev couplerP10 : Setting
-couplerP10 = settingOf 0xFF (broadcastOpen ∷ closedRow ∷ []) [] 0 0
+abbrev couplerP10 : Coupler
+couplerP10 = couplerBy (settingOf 0xFF 0 0) (broadcastOpen ∷ closedRow ∷ []) []
 
 abbrev heardP10 : List ℕ
 heardP10 = 0xB0 ∷ 0xAF ∷ 0xFE ∷ 0x00 ∷ 0x00 ∷ 0xE1 ∷ 0x01 ∷ 0x00 ∷ 0xFE ∷ []
@@ -131,17 +131,17 @@ heardP10 = 0xB0 ∷ 0xAF ∷ 0xFE ∷ 0x00 ∷ 0x00 ∷ 0xE1 ∷ 0x01 ∷ 0x00 �
 abbrev sentP10 : List ℕ
 sentP10 = 0xB0 ∷ 0xAF ∷ 0xFE ∷ 0x00 ∷ 0x00 ∷ 0xD1 ∷ 0x01 ∷ 0x00 ∷ 0xCE ∷ []
 
-module _ (step : Setting → Memory → List ℕ → List ℕ → Done)
-    (meets : (k : Setting) (m : Memory) (s room : List ℕ) → Did k m s room (step k m s room .outcome) (step k m s room .memory) (step k m s room .room))
+module _ (step : Coupler → Memory → List ℕ → List ℕ → Done)
+    (meets : (k : Coupler) (m : Memory) (s room : List ℕ) → Did k m s room (step k m s room .outcome) (step k m s room .memory) (step k m s room .room))
   where
     does-p10 : Forwards sentP10 (step couplerP10 noMemory heardP10 lent)
     does-p10 = forwards couplerP10 heardP10 (sends 0xCC sentP10) refl p10 (step couplerP10 noMemory heardP10 lent) (meets couplerP10 noMemory heardP10 lent)
 
-    pub forwards-nothing : ((k : Setting) (m : Memory) (s room : List ℕ) → step k m s room .outcome .forwarded ≡ 0) → ⊥
+    pub forwards-nothing : ((k : Coupler) (m : Memory) (s room : List ℕ) → step k m s room .outcome .forwarded ≡ 0) → ⊥
     forwards-nothing h = omega (arith, h couplerP10 noMemory heardP10 lent, does-p10 .size)
 
     -- what it forwards are the octets that came
-    pub copies-octets-unchanged : ((k : Setting) (m : Memory) (s room : List ℕ) → (step k m s room .outcome .forwarded ≡ 0 → ⊥)
+    pub copies-octets-unchanged : ((k : Coupler) (m : Memory) (s room : List ℕ) → (step k m s room .outcome .forwarded ≡ 0 → ⊥)
         → take (step k m s room .outcome .forwarded) (step k m s room .room) ≡ s) → ⊥
     copies-octets-unchanged h =
         let same : take (step couplerP10 noMemory heardP10 lent .outcome .forwarded) (step couplerP10 noMemory heardP10 lent .room) ≡ heardP10 =
@@ -160,7 +160,7 @@ abbrev heardP7 : ℕ → List ℕ
 heardP7 ctrl2 = 0x06 ∷ 0x10 ∷ 0x05 ∷ 0x30 ∷ 0x00 ∷ 0x14 ∷ 0x29 ∷ 0x00 ∷ 0xBC ∷ ctrl2 ∷ 0x00 ∷ 0x00 ∷ 0x12 ∷ 0x34 ∷ 0x04 ∷ 0x00 ∷ 0x80 ∷ 0x56 ∷ 0x78 ∷ 0x9A ∷ []
 
 abbrev inputP7 : ℕ → Input
-inputP7 ctrl2 = record { setting = fromIpOpen; octets = heardP7 ctrl2; room = lent }
+inputP7 ctrl2 = record { coupler = fromIpOpen; octets = heardP7 ctrl2; room = lent }
 
 ip-remembers-nothing : (m : Memory) (s : List ℕ) (h : Heard) → memoryAfter fromIpOpen m s h ≡ m
 ip-remembers-nothing m s (frame x p) = refl

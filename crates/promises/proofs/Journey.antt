@@ -1,7 +1,7 @@
 -- Demand 3, and what a planner really wants to know: the list is what the couplers do, whatever each of them remembers, the backbone being
 -- TP1 or IP. A first sending is put on the starting line of a well-formed site at work, and just that telegram is traced.
 use Prim.Native.Nat.{ℕ, zero, suc, _≤_, _<_}
-use mathlib.Core.Bool.{Bool, true, false, cond, _&&_}
+use mathlib.Core.Bool.{Bool, true, false, _&&_}
 use mathlib.Core.List.{List, [], _∷_}
 use mathlib.Core.Logic.{_↔_}
 use mathlib.Core.Path.{_≡_, refl, sym, ap, _∙_, subst}
@@ -17,19 +17,21 @@ use Rattle.frame.specs.declared.Verdict.{Verdict}
 use Rattle.frame.specs.Valid.{Valid}
 use Rattle.frame.specs.declared.Meaning.{Meaning}
 use Rattle.octets.proofs.Below.{and-true}
-use Rattle.octets.specs.Octets.{Octets}
+use Rattle.octets.specs.Octets.{Octets, weigh}
 use Rattle.octets.specs.Room.{over}
 use Rattle.site.specs.WellFormed.{siteTests}
-use Rattle.tracer.proofs.Handing.{backbone-ip}
-use Rattle.tracer.proofs.Journey.{list-is-journey, arrives-listed, arrives-below, sends-so-many, sends-once as sends-alike}
+use Rattle.journey.proofs.Handing.{backbone-ip}
+use Rattle.journey.proofs.Journey.{list-is-journey, arrives-listed, arrives-below, sends-so-many, sends-once as sends-alike}
 use Rattle.tracer.proofs.ListLaws.{trace-and-one}
 use Rattle.tracer.proofs.Paths.{by-cases}
-use Rattle.tracer.proofs.SoMany.{so-many-one}
+use Rattle.journey.proofs.SoMany.{so-many-one}
 use Rattle.tracer.proofs.Standing.{ListedWith, stands-iff, stands-once}
-use Rattle.tracer.specs.Journey.{AtWork, isIp, formOn, Arrives, Sends, SoMany, ArrivesWith, withCount, askedOf}
+use Rattle.journey.specs.Journey.{AtWork, isIp, formOn, Arrives, Sends, SoMany, ArrivesWith, withCount, askedOf}
 use Rattle.tracer.specs.Lines.{Crossing, path, distance}
-use Rattle.tracer.specs.Listing.{Query, onArrival, StandsIn, listed, linesListed, forwardings}
-use Rattle.tracer.specs.Tracing.{isQuery, traceTests, tracedBy, listBy, DidTrace}
+use Rattle.tracer.specs.Query.{isQuery, onArrival}
+use Rattle.tracer.specs.Listing.{StandsIn, listed, linesListed, forwardings}
+use Rattle.tracer.specs.declared.Query.{Query}
+use Rattle.tracer.specs.Tracing.{traceTests, tracedBy, listBy, DidTrace}
 use Rattle.tracer.specs.declared.Traced.{Traced}
 
 -- the backbone may be either: it is IP exactly if it is meant to be
@@ -44,7 +46,7 @@ module _ (w : AtWork) (o : Octets (w .site)) (ok : NoneOf (siteTests (w .stores)
   asks : isQuery (askedOf start m) ≡ true
   asks = rw (le-leb (m .count) 7 (omega (arith, ranges-of m (length p) (v .ranges) .count))) (kind (m .group))
     where
-      kind : (b : Bool) → leb (cond b 1 0) 1 && true ≡ true
+      kind : (b : Bool) → leb (weigh b 1) 1 && true ≡ true
       kind true = refl
       kind false = refl
 
@@ -88,7 +90,7 @@ module _ (w : AtWork) (o : Octets (w .site)) (ok : NoneOf (siteTests (w .stores)
   nothing-else line octets way a =
       let l = arrives-listed w fine start m p v new a in
       let b = arrives-below w fine start m p v new o small a in
-      let c : ℕ = onArrival (m .count) (distance start line) in
+      let c : ℕ = onArrival (askedOf start m) (distance start line) in
       record { below = b; count = c; stands = in-room line c (length way) .1 (b, l .0); laid = l .1 .0; along = l .1 .1 }
 
   -- each line once: it stands in one place, and on it the telegram arrives once, the same octets over the same couplers
@@ -131,7 +133,7 @@ every-query q e h =
     let a = and-true (leb (q .kind) 1) (leb (q .count) 7) e in
     let m : Meaning = record { extended = false; first = true; priority = 0; source = 0; group = eqb (q .kind) 1; destination = q .destination; count = q .count } in
     let r : Ranges m 1 = record { priority = omega arith; count = omega (arith, leb-true (q .count) 7 (a .1)); some = omega arith; most = omega arith } in
-    let k : cond (eqb (q .kind) 1) 1 0 ≡ q .kind = kind (q .kind) (leb-true (q .kind) 1 (a .0)) in
+    let k : weigh (eqb (q .kind) 1) 1 ≡ q .kind = kind (q .kind) (leb-true (q .kind) 1 (a .0)) in
     record {
       meaning = m;
       payload = 0 ∷ [];
@@ -140,7 +142,7 @@ every-query q e h =
       asked = λ i. record { start = q .start; kind = k i; destination = q .destination; count = q .count };
     }
   where
-    kind : (k : ℕ) → k ≤ 1 → cond (eqb k 1) 1 0 ≡ k
+    kind : (k : ℕ) → k ≤ 1 → weigh (eqb k 1) 1 ≡ k
     kind k l = by-cases (eqb k 1) (λ d. rw d (sym (eqb-true k 1 d))) (λ d. rw d (omega (arith, eqb-false k 1 d)))
 
     one-octet : Octets (0 ∷ [])

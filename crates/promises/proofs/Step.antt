@@ -16,11 +16,12 @@ use Rattle.coupler.proofs.Refusals.{number-iff}
 use Rattle.coupler.proofs.StepLaws.{forwarded-ranged, heard-size}
 use Rattle.coupler.specs.Answers.{acknowledgementNumber}
 use Rattle.coupler.specs.Memory.{recalled, sideOf, rememberedOn}
-use Rattle.coupler.specs.Passing.{isOwn, mayPass}
-use Rattle.coupler.specs.Step.{Setting, stepTests, fromIp, toIp, Heard, frame, nothing, heard, isAllowed, repeats, isForwarded, acknowledgementBy, forwardedMeaning, indication, formOf, forwardedOctets, outcomeOf, sent, memoryAfter, Did}
+use Rattle.passing.specs.Passing.{isOwn, mayPass}
+use Rattle.coupler.specs.Step.{Coupler, stepTests, fromIp, toIp, Heard, frame, nothing, heard, isForItself, isAllowed, repeats, isForwarded, acknowledgementBy, forwardedMeaning, indication, formOf, forwardedOctets, outcomeBy, sentBy, memoryAfter, Did}
 use Rattle.coupler.specs.declared.Acknowledgement.the-variants.{Silence, Acknowledged}
 use Rattle.coupler.specs.declared.Memory.{Memory}
 use Rattle.coupler.specs.declared.Outcome.{Outcome}
+use Rattle.coupler.specs.declared.Setting.{Setting}
 use Rattle.frame.proofs.Numbers.{number-some}
 use Rattle.frame.specs.Order.{FirstIs}
 use Rattle.frame.specs.Refusals.{number}
@@ -37,28 +38,28 @@ use Rattle.cemi.specs.Valid.{ValidInformation}
 use Rattle.promises.proofs.Heard.{IsFrameOn, valid-indication, Hears, hears-iff, refuses-iff}
 
 -- the frame that the receiving side remembers
-abbrev pub rememberedBy : Setting → Memory → List ℕ
-rememberedBy k m = recalled (sideOf m (k .side))
+abbrev pub rememberedBy : Coupler → Memory → List ℕ
+rememberedBy k m = recalled (sideOf m (k .setting .side))
 
 -- what earns CCh: "A TP1 frame gets CCh exactly if it is for the coupler itself or, repetition or not, its address, codes and count allow
 -- forwarding"
-pub record Earns (k : Setting) (x : Meaning) : Type 0 where
+pub record Earns (k : Coupler) (x : Meaning) : Type 0 where
   pub on-tp1 : fromIp k ≡ false
-  pub addressed : isOwn (k .line) (x .group) (x .destination) || isAllowed k x ≡ true
+  pub addressed : isForItself k x || isAllowed k x ≡ true
 
 -- what an accepted frame draws
-pub record Draws (k : Setting) (m : Memory) (s room : List ℕ) (x : Meaning) (p : List ℕ) (o : Outcome) (m′ : Memory) (room′ : List ℕ) : Type 0 where
+pub record Draws (k : Coupler) (m : Memory) (s room : List ℕ) (x : Meaning) (p : List ℕ) (o : Outcome) (m′ : Memory) (room′ : List ℕ) : Type 0 where
   pub accepted : o .number ≡ 0
   -- CCh where it is earned, "otherwise no acknowledgement"
   pub acknowledged : Earns k x → acknowledgementNumber (o .acknowledgement) ≡ 0xCC
   pub silent : (Earns k x → ⊥) → acknowledgementNumber (o .acknowledgement) ≡ 0
   -- "A frame with AT 0 to the coupler's own address is for itself"
-  pub itself : o .own ≡ isOwn (k .line) (x .group) (x .destination)
+  pub itself : o .own ≡ isForItself k x
   -- "Forwarded octets are the first of the lent room; those behind them stay."
-  pub forwards : Forwardable k (rememberedBy k m) x → (o .forwarded ≡ length (forwardedOctets k x p)) × (room′ ≡ over (forwardedOctets k x p) room)
-  pub stops : (Forwardable k (rememberedBy k m) x → ⊥) → (o .forwarded ≡ 0) × (room′ ≡ room)
+  pub forwards : Forwardable k (rememberedBy k m) s x → (o .forwarded ≡ length (forwardedOctets k x p)) × (room′ ≡ over (forwardedOctets k x p) room)
+  pub stops : (Forwardable k (rememberedBy k m) s x → ⊥) → (o .forwarded ≡ 0) × (room′ ≡ room)
   -- "Afterwards the accepted frame is the remembered one."; "IP has neither memory nor acknowledgement."
-  pub remembers : fromIp k ≡ false → m′ ≡ rememberedOn m (k .side) s
+  pub remembers : fromIp k ≡ false → m′ ≡ rememberedOn m (k .setting .side) s
   pub forgets-nothing : fromIp k ≡ true → m′ ≡ m
 
 -- "On a refusal: its number, none, not, 0."; "nothing lent is written, nothing remembered changes"
@@ -71,7 +72,7 @@ pub record Refuses (m : Memory) (room : List ℕ) (r : Refusal) (o : Outcome) (m
   pub writes-nothing : room′ ≡ room
 
 -- how a step ends: either way, and no other
-pub data StepEnds (k : Setting) (m : Memory) (s room : List ℕ) (o : Outcome) (m′ : Memory) (room′ : List ℕ) : Type 0 where
+pub data StepEnds (k : Coupler) (m : Memory) (s room : List ℕ) (o : Outcome) (m′ : Memory) (room′ : List ℕ) : Type 0 where
   accepts : (x : Meaning) (p : List ℕ) → Hears k s (length room) x p → Draws k m s room x p o m′ room′ → StepEnds k m s room o m′ room′
   refuses : (r : Refusal) → FirstIs (stepTests k s (length room)) r → Refuses m room r o m′ room′ → StepEnds k m s room o m′ room′
 
@@ -81,29 +82,29 @@ heard-apart e = let z : _≡_ {A = ℕ} 0 1 = cc in absurd (omega arith)
 bool-apart : {A : Type 0} → false ≡ true → A
 bool-apart e = let z : _≡_ {A = ℕ} 0 1 = cc in absurd (omega arith)
 
-module _ (k : Setting) (m : Memory) (s room : List ℕ) where
+module _ (k : Coupler) (m : Memory) (s room : List ℕ) where
   -- what a frame draws by the definition
-  drawn : (x : Meaning) (p : List ℕ) → Draws k m s room x p (outcomeOf k (rememberedBy k m) (frame x p)) (memoryAfter k m s (frame x p)) (over (sent k (rememberedBy k m) (frame x p)) room)
+  drawn : (x : Meaning) (p : List ℕ) → Draws k m s room x p (outcomeBy k (rememberedBy k m) s (frame x p)) (memoryAfter k m s (frame x p)) (over (sentBy k (rememberedBy k m) s (frame x p)) room)
   unfolding acknowledgementBy
   drawn x p = record {
     accepted = refl;
     acknowledged = λ e. rw (e .on-tp1, e .addressed) refl;
-    silent = λ n. quiet (fromIp k) (isOwn (k .line) (x .group) (x .destination) || isAllowed k x) refl refl n;
+    silent = λ n. quiet (fromIp k) (isForItself k x || isAllowed k x) refl refl n;
     itself = refl;
-    forwards = λ f. let e = forwardable-iff k (rememberedBy k m) x .1 f in (rw e refl, rw e refl);
-    stops = λ n. unsent (isForwarded k (repeats k (rememberedBy k m) x) x) refl n;
+    forwards = λ f. let e = forwardable-iff k (rememberedBy k m) s x .1 f in (rw e refl, rw e refl);
+    stops = λ n. unsent (isForwarded k (repeats k (rememberedBy k m) s) x) refl n;
     remembers = λ e. rw e refl;
     forgets-nothing = λ e. rw e refl;
   }
     where
-      quiet : (ip b : Bool) → fromIp k ≡ ip → isOwn (k .line) (x .group) (x .destination) || isAllowed k x ≡ b → (Earns k x → ⊥) → acknowledgementNumber (cond (not ip && b) Acknowledged Silence) ≡ 0
+      quiet : (ip b : Bool) → fromIp k ≡ ip → isForItself k x || isAllowed k x ≡ b → (Earns k x → ⊥) → acknowledgementNumber (cond (not ip && b) Acknowledged Silence) ≡ 0
       quiet true b e f n = refl
       quiet false true e f n = absurd (n (record { on-tp1 = e; addressed = f }))
       quiet false false e f n = refl
 
-      unsent : (b : Bool) → isForwarded k (repeats k (rememberedBy k m) x) x ≡ b → (Forwardable k (rememberedBy k m) x → ⊥)
+      unsent : (b : Bool) → isForwarded k (repeats k (rememberedBy k m) s) x ≡ b → (Forwardable k (rememberedBy k m) s x → ⊥)
           → (length (cond b (forwardedOctets k x p) []) ≡ 0) × (over (cond b (forwardedOctets k x p) []) room ≡ room)
-      unsent true e n = absurd (n (forwardable-iff k (rememberedBy k m) x .0 e))
+      unsent true e n = absurd (n (forwardable-iff k (rememberedBy k m) s x .0 e))
       unsent false e n = (refl, refl)
 
   moved : (x : Meaning) (p : List ℕ) {o₁ o₂ : Outcome} {m₁ m₂ : Memory} {room₁ room₂ : List ℕ} → o₁ ≡ o₂ → m₁ ≡ m₂ → room₁ ≡ room₂ → Draws k m s room x p o₁ m₁ room₁ → Draws k m s room x p o₂ m₂ room₂
@@ -115,41 +116,41 @@ module _ (k : Setting) (m : Memory) (s room : List ℕ) where
     where
       go : (h : Heard) → heard k s (length room) ≡ h → StepEnds k m s room o m′ room′
       go (frame x p) e =
-          let a : outcomeOf k (rememberedBy k m) (frame x p) ≡ o = sym (d .handed .outcome ∙ ap (outcomeOf k (rememberedBy k m)) e) in
+          let a : outcomeBy k (rememberedBy k m) s (frame x p) ≡ o = sym (d .handed .outcome ∙ ap (outcomeBy k (rememberedBy k m) s) e) in
           let b : memoryAfter k m s (frame x p) ≡ m′ = sym (d .memory ∙ ap (memoryAfter k m s) e) in
-          let l : over (sent k (rememberedBy k m) (frame x p)) room ≡ room′ = sym (d .handed .left ∙ ap (λ (h : Heard). over (sent k (rememberedBy k m) h) room) e) in
+          let l : over (sentBy k (rememberedBy k m) s (frame x p)) room ≡ room′ = sym (d .handed .left ∙ ap (λ (h : Heard). over (sentBy k (rememberedBy k m) s h) room) e) in
           accepts x p (hears-iff k s (length room) x p c .0 e) (moved x p a b l (drawn x p))
       go (nothing r) e =
-          let a : o ≡ outcomeOf k (rememberedBy k m) (nothing r) = d .handed .outcome ∙ ap (outcomeOf k (rememberedBy k m)) e in
+          let a : o ≡ outcomeBy k (rememberedBy k m) s (nothing r) = d .handed .outcome ∙ ap (outcomeBy k (rememberedBy k m) s) e in
           refuses r (refuses-iff k s (length room) r .0 e) (record {
             numbered = ap (λ (u : Outcome). u .number) a;
             silent = ap (λ (u : Outcome). acknowledgementNumber (u .acknowledgement)) a;
             not-itself = ap (λ (u : Outcome). u .own) a;
             sends-nothing = ap (λ (u : Outcome). u .forwarded) a;
             remembers-as-before = d .memory ∙ ap (memoryAfter k m s) e;
-            writes-nothing = d .handed .left ∙ ap (λ (h : Heard). over (sent k (rememberedBy k m) h) room) e;
+            writes-nothing = d .handed .left ∙ ap (λ (h : Heard). over (sentBy k (rememberedBy k m) s h) room) e;
           })
 
   -- a frame draws one thing
   module _ (x : Meaning) (p : List ℕ) {o₁ o₂ : Outcome} {m₁ m₂ : Memory} {room₁ room₂ : List ℕ} (a : Draws k m s room x p o₁ m₁ room₁) (b : Draws k m s room x p o₂ m₂ room₂) where
     one-acknowledgement : acknowledgementNumber (o₁ .acknowledgement) ≡ acknowledgementNumber (o₂ .acknowledgement)
-    one-acknowledgement = go (fromIp k) (isOwn (k .line) (x .group) (x .destination) || isAllowed k x) refl refl
+    one-acknowledgement = go (fromIp k) (isForItself k x || isAllowed k x) refl refl
       where
         unearned : (Earns k x → ⊥) → acknowledgementNumber (o₁ .acknowledgement) ≡ acknowledgementNumber (o₂ .acknowledgement)
         unearned n = a .silent n ∙ sym (b .silent n)
 
-        go : (ip c : Bool) → fromIp k ≡ ip → isOwn (k .line) (x .group) (x .destination) || isAllowed k x ≡ c → acknowledgementNumber (o₁ .acknowledgement) ≡ acknowledgementNumber (o₂ .acknowledgement)
+        go : (ip c : Bool) → fromIp k ≡ ip → isForItself k x || isAllowed k x ≡ c → acknowledgementNumber (o₁ .acknowledgement) ≡ acknowledgementNumber (o₂ .acknowledgement)
         go true c e f = unearned (λ n. bool-apart (sym (n .on-tp1) ∙ e))
         go false true e f = let y : Earns k x = record { on-tp1 = e; addressed = f } in a .acknowledged y ∙ sym (b .acknowledged y)
         go false false e f = unearned (λ n. bool-apart (sym f ∙ n .addressed))
 
     one-forwarding : (o₁ .forwarded ≡ o₂ .forwarded) × (room₁ ≡ room₂)
-    one-forwarding = go (isForwarded k (repeats k (rememberedBy k m) x) x) refl
+    one-forwarding = go (isForwarded k (repeats k (rememberedBy k m) s) x) refl
       where
-        go : (c : Bool) → isForwarded k (repeats k (rememberedBy k m) x) x ≡ c → (o₁ .forwarded ≡ o₂ .forwarded) × (room₁ ≡ room₂)
-        go true e = let f = forwardable-iff k (rememberedBy k m) x .0 e in (a .forwards f .0 ∙ sym (b .forwards f .0), a .forwards f .1 ∙ sym (b .forwards f .1))
+        go : (c : Bool) → isForwarded k (repeats k (rememberedBy k m) s) x ≡ c → (o₁ .forwarded ≡ o₂ .forwarded) × (room₁ ≡ room₂)
+        go true e = let f = forwardable-iff k (rememberedBy k m) s x .0 e in (a .forwards f .0 ∙ sym (b .forwards f .0), a .forwards f .1 ∙ sym (b .forwards f .1))
         go false e =
-            let n : Forwardable k (rememberedBy k m) x → ⊥ = λ f. bool-apart (sym e ∙ forwardable-iff k (rememberedBy k m) x .1 f) in
+            let n : Forwardable k (rememberedBy k m) s x → ⊥ = λ f. bool-apart (sym e ∙ forwardable-iff k (rememberedBy k m) s x .1 f) in
             (a .stops n .0 ∙ sym (b .stops n .0), a .stops n .1 ∙ sym (b .stops n .1))
 
     one-memory : m₁ ≡ m₂
@@ -185,32 +186,32 @@ module _ (k : Setting) (m : Memory) (s room : List ℕ) where
       ((λ j. record { number = n j; acknowledgement = l j; own = i j; forwarded = w j }), (a .remembers-as-before ∙ sym (b .remembers-as-before), a .writes-nothing ∙ sym (b .writes-nothing)))
 
 -- a frame with these properties is heard
-pub record HearsOne (k : Setting) (s : List ℕ) (room : ℕ) (Has : Meaning → Type 0) : Type 0 where
+pub record HearsOne (k : Coupler) (s : List ℕ) (room : ℕ) (Has : Meaning → Type 0) : Type 0 where
   pub meaning : Meaning
   pub payload : List ℕ
   pub hears : Hears k s room meaning payload
   pub has : Has meaning
 
-module _ (k : Setting) (m m′ : Memory) (s room room′ : List ℕ) (o : Outcome) (c : Octets s) (d : Did k m s room o m′ room′) where
-  outcome-of : (h : Heard) → heard k s (length room) ≡ h → o ≡ outcomeOf k (rememberedBy k m) h
-  outcome-of h e = d .handed .outcome ∙ ap (outcomeOf k (rememberedBy k m)) e
+module _ (k : Coupler) (m m′ : Memory) (s room room′ : List ℕ) (o : Outcome) (c : Octets s) (d : Did k m s room o m′ room′) where
+  outcome-of : (h : Heard) → heard k s (length room) ≡ h → o ≡ outcomeBy k (rememberedBy k m) s h
+  outcome-of h e = d .handed .outcome ∙ ap (outcomeBy k (rememberedBy k m) s) e
 
   frame-heard : {Has : Meaning → Type 0} (w : HearsOne k s (length room) Has) → heard k s (length room) ≡ frame (w .meaning) (w .payload)
   frame-heard w = hears-iff k s (length room) (w .meaning) (w .payload) c .1 (w .hears)
 
   -- octets are forwarded exactly if a frame is heard, address and settings let it pass, the count is not 0, and it is no repetition
-  pub forwards-exactly : (o .forwarded ≡ 0 → ⊥) ↔ HearsOne k s (length room) (Forwardable k (rememberedBy k m))
+  pub forwards-exactly : (o .forwarded ≡ 0 → ⊥) ↔ HearsOne k s (length room) (Forwardable k (rememberedBy k m) s)
   forwards-exactly = (
     (λ n. to (heard k s (length room)) refl n),
-    (λ w z. forwarded-iff k (rememberedBy k m) (frame (w .meaning) (w .payload)) .1 (w .has) (sym (ap (λ (u : Outcome). u .forwarded) (outcome-of _ (frame-heard w))) ∙ z)),
+    (λ w z. forwarded-iff k (rememberedBy k m) s (frame (w .meaning) (w .payload)) .1 (w .has) (sym (ap (λ (u : Outcome). u .forwarded) (outcome-of _ (frame-heard w))) ∙ z)),
   )
     where
-      to : (h : Heard) → heard k s (length room) ≡ h → (o .forwarded ≡ 0 → ⊥) → HearsOne k s (length room) (Forwardable k (rememberedBy k m))
+      to : (h : Heard) → heard k s (length room) ≡ h → (o .forwarded ≡ 0 → ⊥) → HearsOne k s (length room) (Forwardable k (rememberedBy k m) s)
       to (frame x p) e n = record {
         meaning = x;
         payload = p;
         hears = hears-iff k s (length room) x p c .0 e;
-        has = forwarded-iff k (rememberedBy k m) (frame x p) .0 (λ z. n (ap (λ (u : Outcome). u .forwarded) (outcome-of _ e) ∙ z));
+        has = forwarded-iff k (rememberedBy k m) s (frame x p) .0 (λ z. n (ap (λ (u : Outcome). u .forwarded) (outcome-of _ e) ∙ z));
       }
       to (nothing r) e n = absurd (n (ap (λ (u : Outcome). u .forwarded) (outcome-of _ e)))
 
@@ -223,7 +224,7 @@ module _ (k : Setting) (m m′ : Memory) (s room room′ : List ℕ) (o : Outcom
     where
       to : (h : Heard) → heard k s (length room) ≡ h → acknowledgementNumber (o .acknowledgement) ≡ 0xCC → HearsOne k s (length room) (Earns k)
       to (frame x p) e z =
-          let a = acknowledged-iff k (rememberedBy k m) x p .0 (acknowledgement-apart _ Acknowledged (sym (ap (λ (u : Outcome). acknowledgementNumber (u .acknowledgement)) (outcome-of _ e)) ∙ z)) in
+          let a = acknowledged-iff k (rememberedBy k m) s x p .0 (acknowledgement-apart _ Acknowledged (sym (ap (λ (u : Outcome). acknowledgementNumber (u .acknowledgement)) (outcome-of _ e)) ∙ z)) in
           record { meaning = x; payload = p; hears = hears-iff k s (length room) x p c .0 e; has = record { on-tp1 = a .0; addressed = a .1 } }
       to (nothing r) e z = absurd (omega (arith, ap (λ (u : Outcome). acknowledgementNumber (u .acknowledgement)) (outcome-of _ e), z))
 
@@ -240,7 +241,7 @@ module _ (k : Setting) (m m′ : Memory) (s room room′ : List ℕ) (o : Outcom
 
   pub refuses-exactly : (r : Refusal) → o .number ≡ number r ↔ FirstIs (stepTests k s (length room)) r
   refuses-exactly r = (
-    (λ z. refuses-iff k s (length room) r .0 (number-iff k (rememberedBy k m) (heard k s (length room)) r .0 (sym (ap (λ (u : Outcome). u .number) (d .handed .outcome)) ∙ z))),
+    (λ z. refuses-iff k s (length room) r .0 (number-iff k (rememberedBy k m) s (heard k s (length room)) r .0 (sym (ap (λ (u : Outcome). u .number) (d .handed .outcome)) ∙ z))),
     (λ f. ap (λ (u : Outcome). u .number) (outcome-of _ (refuses-iff k s (length room) r .1 f))),
   )
 
@@ -274,14 +275,14 @@ remembers-on m side s w h b = go (eqb side 0) refl
         let one : 1 ≡ side = omega arith in
         subst (λ (n : ℕ). Remembers m (rememberedOn m n s) n s) one sub
 
-pub remembers-the-frame : (k : Setting) (m m′ : Memory) (s room room′ : List ℕ) (o : Outcome) → Octets s → Did k m s room o m′ room′ → Roomy m → HearsOne k s (length room) (λ x. Unit {0}) → fromIp k ≡ false
-    → Remembers m m′ (k .side) s
+pub remembers-the-frame : (k : Coupler) (m m′ : Memory) (s room room′ : List ℕ) (o : Outcome) → Octets s → Did k m s room o m′ room′ → Roomy m → HearsOne k s (length room) (λ x. Unit {0}) → fromIp k ≡ false
+    → Remembers m m′ (k .setting .side) s
 remembers-the-frame k m m′ s room room′ o c d y w f =
     let e : heard k s (length room) ≡ frame (w .meaning) (w .payload) = hears-iff k s (length room) (w .meaning) (w .payload) c .1 (w .hears) in
-    let same : rememberedOn m (k .side) s ≡ m′ = sym (d .memory ∙ ap (memoryAfter k m s) e ∙ rw f refl) in
-    let numbers = and-true (ltb (k .side) 2) (ltb (k .medium) 2) (not-false _ (w .hears .set .1 .1 .0)) in
-    subst (λ (n : Memory). Remembers m n (k .side) s) same
-    (remembers-on m (k .side) s y (heard-size k s (length room) (w .meaning) (w .payload) c e f) (ltb-true (k .side) 2 (numbers .0)))
+    let same : rememberedOn m (k .setting .side) s ≡ m′ = sym (d .memory ∙ ap (memoryAfter k m s) e ∙ rw f refl) in
+    let numbers = and-true (ltb (k .setting .side) 2) (ltb (k .setting .medium) 2) (not-false _ (w .hears .set .1 .1 .0)) in
+    subst (λ (n : Memory). Remembers m n (k .setting .side) s) same
+    (remembers-on m (k .setting .side) s y (heard-size k s (length room) (w .meaning) (w .payload) c e f) (ltb-true (k .setting .side) 2 (numbers .0)))
 
 -- "A forwarded frame keeps format, priority, addresses and payload; its repeat flag says first sending; its count follows the rule of demand 2":
 -- 7 stays, any other drops by one
@@ -295,7 +296,7 @@ pub record Keeps (x y : Meaning) : Type 0 where
   pub seven : x .count ≡ 7 → y .count ≡ 7
   pub lower : (x .count ≡ 7 → ⊥) → y .count ≡ x .count - 1
 
-pub record Onward (k : Setting) (x : Meaning) (p octets : List ℕ) : Type 0 where
+pub record Onward (k : Coupler) (x : Meaning) (p octets : List ℕ) : Type 0 where
   pub meaning : Meaning
   pub keeps : Keeps x meaning
   -- "on IP it is a plain indication in a routing datagram"
@@ -304,21 +305,21 @@ pub record Onward (k : Setting) (x : Meaning) (p octets : List ℕ) : Type 0 whe
   -- a frame of the medium that it goes out by
   pub is-frame : Valid x p → IsFrameOn octets meaning p (toIp k)
 
-valid-onward : (x : Meaning) (p : List ℕ) → Valid x p → Valid (forwardedMeaning x) p
-valid-onward x p v = record { ranges = forwarded-ranged x (length p) (v .ranges); source = v .source; destination = v .destination; octets = v .octets }
+valid-onward : (k : Setting) (x : Meaning) (p : List ℕ) → Valid x p → Valid (forwardedMeaning k x) p
+valid-onward k x p v = record { ranges = forwarded-ranged k x (length p) (v .ranges); source = v .source; destination = v .destination; octets = v .octets }
 
-frame-onward : (x : Meaning) (p : List ℕ) (b : Bool) → Valid x p → IsFrameOn (formOf b x p) (forwardedMeaning x) p b
+frame-onward : (k : Setting) (x : Meaning) (p : List ℕ) (b : Bool) → Valid x p → IsFrameOn (formOf b k x p) (forwardedMeaning k x) p b
 unfolding formOf routingOctets plain
-frame-onward x p true v =
+frame-onward k x p true v =
     let informed : ValidInformation [] = record { few = omega arith; octets = λ i. omega arith } in
-    let valid = valid-indication (forwardedMeaning x) p (valid-onward x p v) in
-    ([], record { indication = plain (indication (forwardedMeaning x)) p; message = record { unread = plainBits; informed = informed; valid = valid; layout = refl }; layout = refl })
-frame-onward x p false v = record { valid = valid-onward x p v; layout = refl }
+    let valid = valid-indication (forwardedMeaning k x) p (valid-onward k x p v) in
+    ([], record { indication = plain (indication (forwardedMeaning k x)) p; message = record { unread = plainBits; informed = informed; valid = valid; layout = refl }; layout = refl })
+frame-onward k x p false v = record { valid = valid-onward k x p v; layout = refl }
 
-pub forwards-the-frame : (k : Setting) (x : Meaning) (p : List ℕ) → Onward k x p (forwardedOctets k x p)
+pub forwards-the-frame : (k : Coupler) (x : Meaning) (p : List ℕ) → Onward k x p (forwardedOctets k x p)
 unfolding formOf
 forwards-the-frame k x p = record {
-  meaning = forwardedMeaning x;
+  meaning = forwardedMeaning (k .setting) x;
   keeps = record {
     format = refl;
     priority = refl;
@@ -331,11 +332,11 @@ forwards-the-frame k x p = record {
   };
   on-tp1 = λ e. rw e refl;
   on-ip = λ e. rw e refl;
-  is-frame = frame-onward x p (toIp k);
+  is-frame = frame-onward (k .setting) x p (toIp k);
 }
 
 -- a frame for the coupler itself never passes, under any code
-pub own-never-passes : (line : ℕ) (codes : List (List ℕ)) (table : List ℕ) (direction : ℕ) (group : Bool) (destination : ℕ)
-    → isOwn line group destination ≡ true → mayPass line codes table direction group destination ≡ false
+pub own-never-passes : (line : ℕ) (codes : List (List ℕ)) (table : List ℕ) (direction kind destination : ℕ)
+    → isOwn line kind destination ≡ true → mayPass line codes table direction kind destination ≡ false
 unfolding mayPass
-own-never-passes line codes table direction group destination e = rw e refl
+own-never-passes line codes table direction kind destination e = rw e refl

@@ -16,7 +16,7 @@ use Rattle.cemi.specs.Writing.{messageInRange}
 use Rattle.cemi.specs.declared.Codes.the-variants.{All, IndicationOnly}
 use Rattle.cemi.specs.declared.Message.{Message}
 use Rattle.coupler.specs.Memory.{recalled, sideOf}
-use Rattle.coupler.specs.Step.{Setting, Heard, Did, outcomeOf, fromIp, nothing}
+use Rattle.coupler.specs.Step.{Coupler, Heard, Did, outcomeBy, fromIp, nothing}
 use Rattle.coupler.specs.declared.Memory.{Memory}
 use Rattle.coupler.specs.declared.Outcome.{Outcome}
 use Rattle.frame.proofs.Numbers.{number-listed}
@@ -53,7 +53,8 @@ use Rattle.tp1.specs.Answers.{tp1Numbered}
 use Rattle.tp1.specs.Layout.{headOf, tp1Octets}
 use Rattle.tp1.specs.Reading.{readTp1, payloadIn, payloadAt}
 use Rattle.tracer.specs.Answers.{explanationNumbered}
-use Rattle.tracer.specs.Listing.{Query, crossingPasses}
+use Rattle.tracer.specs.Listing.{crossingPasses}
+use Rattle.tracer.specs.declared.Query.{Query}
 use Rattle.tracer.specs.Tracing.{traceTests, tracedBy}
 use Rattle.tracer.specs.Why.{answerWhy}
 use Rattle.tracer.specs.declared.Explanation.the-variants.{Reached}
@@ -123,15 +124,15 @@ pub routing-write-back : (flags : Bool) (x : Message) (p room : List ℕ) (answe
 routing-write-back flags x p room answer after = writes-back (routing-most flags IndicationOnly x p) (length-routing x p ∙ omega arith)
 
 -- "octets forwarded, the first of the room, at most 270": of every step ..
-pub at-most-270 : (k : Setting) (m m′ : Memory) (s room room′ : List ℕ) (outcome : Outcome) → Octets s → Did k m s room outcome m′ room′ → outcome .forwarded ≤ 270
-at-most-270 k m m′ s room room′ outcome o d = rw (d .handed .outcome) (forwarded-most k (recalled (sideOf m (k .side))) s (length room) o)
+pub at-most-270 : (k : Coupler) (m m′ : Memory) (s room room′ : List ℕ) (outcome : Outcome) → Octets s → Did k m s room outcome m′ room′ → outcome .forwarded ≤ 270
+at-most-270 k m m′ s room room′ outcome o d = rw (d .handed .outcome) (forwarded-most k (recalled (sideOf m (k .setting .side))) s (length room) o)
 
 -- .. and through the surface. "A step's answer. With a refusal every bit above 7 is 0."
-module _ (codes : List ℕ) (k : Setting) (block s room : List ℕ) (answer : ℕ) (block′ room′ : List ℕ) (o : Octets s) (w : SteppedThrough (lentRight codes block) k block s room answer block′ room′) where
+module _ (settings : List ℕ) (k : Coupler) (block s room : List ℕ) (answer : ℕ) (block′ room′ : List ℕ) (o : Octets s) (w : SteppedThrough (lentRight settings block) k block s room answer block′ room′) where
   abbrev hears : Heard
-  hears = heardThrough (lentRight codes block) k s (length room)
+  hears = heardThrough (lentRight settings block) k s (length room)
 
-  pub step-back : Tells 64 outcomeFrom answer (outcomeNumbered (outcomeOf k (recalled (sideOf (memoryIn block) (k .side))) hears)) (λ r. hears ≡ nothing r)
+  pub step-back : Tells 64 outcomeFrom answer (outcomeNumbered (outcomeBy k (recalled (sideOf (memoryIn block) (k .setting .side))) s hears)) (λ r. hears ≡ nothing r)
   step-back = step-told o w
 
   -- "bits 17 to 31  0"
@@ -141,18 +142,18 @@ module _ (codes : List ℕ) (k : Setting) (block s room : List ℕ) (answer : �
   pub step-at-most-270 : forwardedIn answer ≤ 270
   step-at-most-270 = step-most o w
 
-  lent : lentRight codes block ≡ true → length block ≡ 530
-  lent = right-block (length codes) (length block)
+  lent : lentRight settings block ≡ true → length block ≡ 530
+  lent = right-block (length settings) (length block)
 
   -- "After a TP1 frame that is not refused, the receiving side's size is the frame's and its octets are the frame; those behind the frame and
   -- the other side's stay."
   pub step-remembers-frame : Octets block → numberIn answer ≡ 0 → fromIp k ≡ false
-      → block′ ≡ laid s (rememberedStart (k .side)) (laid (high (length s) ∷ low (length s) ∷ []) (rememberedPart (k .side)) block)
+      → block′ ≡ laid s (rememberedStart (k .setting .side)) (laid (high (length s) ∷ low (length s) ∷ []) (rememberedPart (k .setting .side)) block)
   step-remembers-frame = step-remembers lent o w
 
   -- "A size above 263 counts as none. No step leaves one, nor a size from 1 to 7"; what the helpers read is the frame
   pub step-recalls-frame : numberIn answer ≡ 0 → fromIp k ≡ false
-      → (8 ≤ length s) × ((rememberedSize block′ (k .side) ≡ length s) × (take (rememberedSize block′ (k .side)) (drop (rememberedStart (k .side)) block′) ≡ s))
+      → (8 ≤ length s) × ((rememberedSize block′ (k .setting .side) ≡ length s) × (take (rememberedSize block′ (k .setting .side)) (drop (rememberedStart (k .setting .side)) block′) ≡ s))
   step-recalls-frame = step-recalls lent o w
 
   -- "After a frame from IP, and after a refusal, the whole block is as it was."; "A refused step leaves room and memory as they were."
@@ -177,7 +178,7 @@ module _ (st : Stores) (site : List ℕ) (q : Query) (room : List ℕ) (answer :
   one-to-256-lines = trace-lines st site q w
 
   -- "The list is the first octets of the room, three for each listed line, in rising order of the lines"
-  pub list-read : numberIn answer ≡ 0 → ListReads (crossingPasses st site q) (q .start) (q .count) answer room′
+  pub list-read : numberIn answer ≡ 0 → ListReads (crossingPasses st site q) q answer room′
   list-read = trace-list st site q w
 
   pub trace-refused-stays : (numberIn answer ≡ 0 → ⊥) → room′ ≡ room

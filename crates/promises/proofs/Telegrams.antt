@@ -7,8 +7,8 @@ use Rattle.tp1.specs.Reading.{isExtended, headSize, isOtherFormat, isEscape, fr
 use Rattle.cemi.specs.Reading.{body, isOtherFormat as isOtherBody, isEscape as isEscapeBody, isLongStandard, bodySize, messageIn}
 use Rattle.knxnetip.specs.Header.{isOtherHeader, isOtherService, isOtherLength}
 use Rattle.routing.specs.Reading.{readRouting}
-use Rattle.coupler.specs.Settings.{classOf, isCode, isRow, areCodes, asksTable, tableFits}
-use Rattle.coupler.specs.Passing.{isOwn, isInTable, isBelow, isRuled, mayPass}
+use Rattle.passing.specs.Settings.{classOf, isCode, isRow, areCodes, asksTable, tableFits}
+use Rattle.passing.specs.Passing.{isOwn, isInTable, isBelow, isOnward, isRuled, mayPass}
 use Rattle.coupler.specs.Memory.{isRepetition}
 use Rattle.coupler.specs.Step.{heard, acknowledgementBy, formOf}
 use Rattle.site.specs.Records.{recordsOf, isMarked, codesOf, couplerOf}
@@ -16,9 +16,10 @@ use Rattle.site.specs.Stores.{isStored, tableAt, tableOf, isStore, areStores}
 use Rattle.site.specs.WellFormed.{hasTable, siteTests}
 use Rattle.site.specs.Letting.{recordPasses, lineLetsPass}
 use Rattle.tracer.specs.Lines.{mainSide, depth, mainSides, path, distance}
-use Rattle.tracer.specs.Listing.{lasts, isListed, onArrival, entry, listed, linesListed, isForwarding, forwardings}
+use Rattle.tracer.specs.Query.{onArrival}
+use Rattle.tracer.specs.Listing.{lasts, isListed, entry, listed, linesListed, isForwarding, forwardings}
 use Rattle.promises.specs.Telegrams.{Every, cases}
 
 pub every : Every cases
-unfolding checkOctet isControl controlOf ctrleOf fieldsMeaning head sealed tp1Octets isExtended headSize isOtherFormat isEscape frameSize isChecked meaningIn readTp1 body isOtherBody isEscapeBody isLongStandard bodySize messageIn isOtherHeader isOtherService isOtherLength readRouting classOf isCode isRow areCodes asksTable tableFits isOwn isInTable isBelow isRuled mayPass isRepetition heard acknowledgementBy formOf recordsOf isMarked codesOf couplerOf isStored tableAt tableOf isStore areStores hasTable siteTests recordPasses lineLetsPass mainSide depth mainSides path distance lasts isListed onArrival entry listed linesListed isForwarding forwardings
+unfolding checkOctet isControl controlOf ctrleOf fieldsMeaning head sealed tp1Octets isExtended headSize isOtherFormat isEscape frameSize isChecked meaningIn readTp1 body isOtherBody isEscapeBody isLongStandard bodySize messageIn isOtherHeader isOtherService isOtherLength readRouting classOf isCode isRow areCodes asksTable tableFits isOwn isInTable isBelow isOnward isRuled mayPass isRepetition heard acknowledgementBy formOf recordsOf isMarked codesOf couplerOf isStored tableAt tableOf isStore areStores hasTable siteTests recordPasses lineLetsPass mainSide depth mainSides path distance lasts isListed onArrival entry listed linesListed isForwarding forwardings
 every = ((refl, refl), ((refl, refl), ((refl, refl), ((refl, refl), ((refl, refl), ((refl, refl), ((refl, refl), ((refl, refl), ((refl, refl), ((refl, refl), ((refl, refl), ((refl, refl), ((refl, refl), ((refl, refl), ((refl, refl), ((refl, refl), ((refl, refl), tt)))))))))))))))))

@@ -4,8 +4,9 @@ use mathlib.Core.Bool.{true, false}
 use mathlib.Core.List.{List, [], _∷_, _++_}
 use mathlib.Core.Path.{_≡_}
 use lib.ListN.{length}
-use Rattle.coupler.specs.Passing.{tableOctet, tableBit}
-use Rattle.coupler.specs.Step.{Setting, settingOf, Heard, heard, outcomeOf, sent}
+use Rattle.passing.specs.Passing.{tableOctet, tableBit}
+use Rattle.coupler.specs.Setting.{settingOf}
+use Rattle.coupler.specs.Step.{Coupler, couplerBy, outcomeOf, sent}
 use Rattle.frame.specs.Order.{firstOf}
 use Rattle.frame.specs.declared.Verdict.{Verdict}
 use Rattle.frame.specs.Answers.{Numbered, accepted, meaningValues}
@@ -13,7 +14,9 @@ use Rattle.coupler.specs.Answers.{acknowledgementNumber}
 use Rattle.site.specs.Stores.{stores}
 use Rattle.tp1.specs.Answers.{tp1Numbered}
 use Rattle.tp1.specs.Reading.{payloadIn, readTp1}
-use Rattle.tracer.specs.Listing.{Query, queryOf, forwardings}
+use Rattle.tracer.specs.Query.{queryOf}
+use Rattle.tracer.specs.Listing.{forwardings}
+use Rattle.tracer.specs.declared.Query.{Query}
 use Rattle.tracer.specs.Tracing.{traceTests, tracedBy, listBy}
 
 -- a refusal in the paper's words: its number, and no values
@@ -32,18 +35,18 @@ pub data Case : Type 0 where
   -- these octets, read as a TP1 frame: number and values, and the payload handed out
   tp1_is_with_ : List ℕ → Numbered → List ℕ → Case
   -- this coupler, given these octets
-  _hears_and_ : Setting → List ℕ → Does → Case
+  _hears_and_ : Coupler → List ℕ → Does → Case
   -- this group's bit, and the octet of the filter table
   bit_is_of_ : ℕ → ℕ → ℕ → Case
   -- this query on this site: the list, and the forwardings made
   _on_lists_by_ : Query → List ℕ → List ℕ → ℕ → Case
 
-abbrev pub does : Setting → Heard → Does
-does k h = sends (acknowledgementNumber (outcomeOf k [] h .acknowledgement)) (sent k [] h)
+abbrev pub does : Coupler → List ℕ → Does
+does k s = sends (acknowledgementNumber (outcomeOf k [] s 272 .acknowledgement)) (sent k [] s 272)
 
 -- an accepted frame, and what becomes of it
-abbrev pub Handles : Setting → Heard → Does → Type 0
-Handles k h d = (outcomeOf k [] h .number ≡ 0) × (does k h ≡ d)
+abbrev pub Handles : Coupler → List ℕ → Does → Type 0
+Handles k s d = (outcomeOf k [] s 272 .number ≡ 0) × (does k s ≡ d)
 
 -- the verdict on a query with empty stores and a room of 768, and what is listed
 abbrev pub asked : Query → List ℕ → Verdict
@@ -51,7 +54,7 @@ asked q site = firstOf (traceTests (stores [] []) site q 768)
 
 abbrev pub Holds : Case → Type 0
 Holds (tp1 s is a with p) = (tp1Numbered (readTp1 s) ≡ a) × (payloadIn (readTp1 s) s ≡ p)
-Holds (k hears s and d) = Handles k (heard k s 272) d
+Holds (k hears s and d) = Handles k s d
 Holds (bit g is b of o) = (tableBit g ≡ b) × (tableOctet g ≡ o)
 Holds (q on site lists l by n) =
     (tracedBy (stores [] []) site q (asked q site) ≡ record { number = 0; lines = length l / 3; forwardings = n }) × (listBy (stores [] []) site q (asked q site) ≡ l)
@@ -98,8 +101,8 @@ abbrev pub broadcastOpen : List ℕ
 broadcastOpen = 0 ∷ 2 ∷ 0 ∷ 0 ∷ []
 
 -- "from IP, groups open"
-abbrev pub fromIpOpen : Setting
-fromIpOpen = settingOf 0x47 (groupsOpen ∷ groupsOpen ∷ []) [] 0 1
+abbrev pub fromIpOpen : Coupler
+fromIpOpen = couplerBy (settingOf 0x47 0 1) (groupsOpen ∷ groupsOpen ∷ []) []
 
 -- "06 10 05 30 00 14 29 00 BC C0 00 00 12 34 04 00 80 56 78 9A from IP, groups open: P1's octets on TP1."
 abbrev pub P7 : Case
@@ -122,7 +125,7 @@ P9 =
 -- "coupler FFh, broadcast open, from main B0 AF FE 00 00 E1 01 00 FE: CCh and B0 AF FE 00 00 D1 01 00 CE"
 abbrev pub P10 : Case
 P10 =
-    settingOf 0xFF (broadcastOpen ∷ closedRow ∷ []) [] 0 0 hears 0xB0 ∷ 0xAF ∷ 0xFE ∷ 0x00 ∷ 0x00 ∷ 0xE1 ∷ 0x01 ∷ 0x00 ∷ 0xFE ∷ []
+    couplerBy (settingOf 0xFF 0 0) (broadcastOpen ∷ closedRow ∷ []) [] hears 0xB0 ∷ 0xAF ∷ 0xFE ∷ 0x00 ∷ 0x00 ∷ 0xE1 ∷ 0x01 ∷ 0x00 ∷ 0xFE ∷ []
     and sends 0xCC (0xB0 ∷ 0xAF ∷ 0xFE ∷ 0x00 ∷ 0x00 ∷ 0xD1 ∷ 0x01 ∷ 0x00 ∷ 0xCE ∷ [])
 
 -- "group 6FFFh is bit 7 of octet 3,583; 7000h is bit 0 of octet 3,584"
