@@ -30,9 +30,10 @@ returns c =
 returns-2 : tie.Need-returns-2
 unfolding heard
 returns-2 c =
+    let then = c .before .before .before .before .before .before in
     let enum-told = c .before .before .before .before .enum-told in
-    let judge = c .before .before .before .before .before .before .judge in
-    let back = c .before .before .before .before .before .before in
+    let judge = then .judge in
+    let back = then in
     let begun = back .before .before .before .before .before in
     let a = begun .args in
     let k = couplerBy (a .setting) (a .codes) (a .table .now) in

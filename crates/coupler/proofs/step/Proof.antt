@@ -22,8 +22,9 @@ slice-aggregate-hand-on c =
 
 returns : tie.Need-returns
 returns c =
-    let hand-on = c .before .before .before .before .before .before .hand-on in
-    let back = c .before .before .before .before .before .before in
+    let then = c .before .before .before .before .before .before in
+    let hand-on = then .hand-on in
+    let back = then in
     let kept-of = back .before .before .before .before .kept-of in
     let side-of = back .before .before .before .before .before .side-of in
     let further = back .before .before .before .before .before .before in

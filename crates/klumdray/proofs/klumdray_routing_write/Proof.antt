@@ -14,11 +14,16 @@ use Rattle.klumdray.proofs.klumdray_routing_write.Tie as tie
 
 of-written-requires : tie.Need-of-written-requires
 of-written-requires c κs =
-    sized (c .before .before .write .result) (c .before .before .write .ensures) (λ e. omega (arith, length-routing (c .before .before .before .before .message-from .result) (c .before .before .before .before .before .before .before .before .before .before .args .payload .now), most-payload (c .before .before .before .before .message-from .result .meaning) _ (message-ranges IndicationOnly (c .before .before .before .before .message-from .result) _ e .meaning)))
+    let at-write = c .before .before .write in
+    let at-message-from = c .before .before .before .before .message-from in
+    let back = c .before .before .before .before .before .before in
+    sized (at-write .result) (at-write .ensures) (λ e. omega (arith, length-routing (at-message-from .result) (back .before .before .before .before .args .payload .now), most-payload (at-message-from .result .meaning) _ (message-ranges IndicationOnly (at-message-from .result) _ e .meaning)))
 
 returns : tie.Need-returns
 returns c =
-    wrote-number (c .before .before .before .write .result) (ap (λ (b : Bool). b && ltb (c .before .before .before .before .before .before .before .before .before .before .before .args .error) 2) (sym (c .before .before .before .before .before .before .before .before .are-flags .ensures)) ∙ c .before .before .before .before .before .before .before .if1 .taken) (rw (c .before .before .before .before .before .message-from .ensures, c .before .before .before .before .before .before .meaning-from .ensures) at (c .before .before .before .write .ensures)) (c .of-written .ensures)
+    let at-write = c .before .before .before .write in
+    let back = c .before .before .before .before .before .before in
+    wrote-number (at-write .result) (ap (λ (b : Bool). b && ltb (back .before .before .before .before .before .args .error) 2) (sym (back .before .before .are-flags .ensures)) ∙ back .before .if1 .taken) (rw (c .before .before .before .before .before .message-from .ensures, c .before .before .before .before .before .before .meaning-from .ensures) at (at-write .ensures)) (c .of-written .ensures)
 
 returns-2 : tie.Need-returns-2
 returns-2 c =

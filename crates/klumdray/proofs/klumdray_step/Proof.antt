@@ -11,9 +11,10 @@ use Rattle.klumdray.proofs.klumdray_step.Tie as tie
 
 part-hand-on-end : tie.Need-part-hand-on-end
 part-hand-on-end c =
+    let then = c .before .before .before .before .before .before in
     let start-of = c .before .before .before .start-of in
-    let if1 = c .before .before .before .before .before .before .if1 in
-    let back = c .before .before .before .before .before .before in
+    let if1 = then .if1 in
+    let back = then in
     let begun = back .before .before .before .before .before .before in
     let a = begun .args in
     omega (arith, start-of .ensures .1, c .before .kept-in .ensures .1, right-block (length (a .settings .now)) (length (a .memory .now)) (if1 .taken))

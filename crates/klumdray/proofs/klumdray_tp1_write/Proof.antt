@@ -9,11 +9,15 @@ use Rattle.klumdray.proofs.klumdray_tp1_write.Tie as tie
 
 of-written-requires : tie.Need-of-written-requires
 of-written-requires c κs =
-    sized (c .before .before .write .result) (c .before .before .write .ensures) (λ e. omega (arith, octets-most (c .before .before .before .before .meaning-from .result) (c .before .before .before .before .before .before .before .before .before .args .payload .now) e))
+    let at-write = c .before .before .write in
+    let back = c .before .before .before .before .before .before in
+    sized (at-write .result) (at-write .ensures) (λ e. omega (arith, octets-most (c .before .before .before .before .meaning-from .result) (back .before .before .before .args .payload .now) e))
 
 returns : tie.Need-returns
 returns c =
-    wrote-number (c .before .before .before .write .result) (sym (c .before .before .before .before .before .before .before .are-flags .ensures) ∙ c .before .before .before .before .before .before .if1 .taken) (rw (c .before .before .before .before .before .meaning-from .ensures) at (c .before .before .before .write .ensures)) (c .of-written .ensures)
+    let at-write = c .before .before .before .write in
+    let back = c .before .before .before .before .before .before in
+    wrote-number (at-write .result) (sym (back .before .are-flags .ensures) ∙ c .before .before .before .before .before .before .if1 .taken) (rw (c .before .before .before .before .before .meaning-from .ensures) at (at-write .ensures)) (c .of-written .ensures)
 
 returns-2 : tie.Need-returns-2
 returns-2 c =

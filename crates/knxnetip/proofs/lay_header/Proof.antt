@@ -5,7 +5,8 @@ use Rattle.knxnetip.proofs.lay_header.Tie as tie
 
 returns : tie.Need-returns
 returns c =
-    rw (← c .before .before .before .before .before .before .before .before .high-octet .ensures, ← c .before .before .before .before .before .before .before .low-octet .ensures, ← c .before .before .before .before .before .before .high-octet2 .ensures, ← c .before .before .before .before .before .low-octet2 .ensures) (c .before .before .lay .ensures)
+    let back = c .before .before .before .before .before .before in
+    rw (← back .before .before .high-octet .ensures, ← back .before .low-octet .ensures, ← c .before .before .before .before .before .before .high-octet2 .ensures, ← c .before .before .before .before .before .low-octet2 .ensures) (c .before .before .lay .ensures)
 
 pub lay-header-spec : {M : Type 1} → statement M
 lay-header-spec =

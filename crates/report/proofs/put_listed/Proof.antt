@@ -11,18 +11,26 @@ use Rattle.report.proofs.put_listed.Tie as tie
 
 put-list-requires : tie.Need-put-list-requires
 put-list-requires c κs =
-    fits-first (listText (c .before .before .before .args .list .now)) (toldLine (ascii "forwardings ") (c .before .before .before .args .forwardings)) 0 (c .before .before .before .args .room .now)
-    (listed-fits (c .before .before .before .args .list .now) (c .before .before .before .args .forwardings) (c .before .before .before .args .room .now) (λ i. c .before .before .shared-slice-known .given i .fits) (c .before .before .before .pre .0) (omega arith) (c .before .before .before .pre .1))
+    let begun = c .before .before .before in
+    let a = begun .args in
+    fits-first (listText (a .list .now)) (toldLine (ascii "forwardings ") (a .forwardings)) 0 (a .room .now)
+    (listed-fits (a .list .now) (a .forwardings) (a .room .now) (λ i. c .before .before .shared-slice-known .given i .fits) (begun .pre .0) (omega arith) (begun .pre .1))
 
 put-told-line-requires : tie.Need-put-told-line-requires
 put-told-line-requires c κs =
-    fits-then (listText (c .before .before .before .before .before .before .before .before .args .list .now)) (toldLine (ascii "forwardings ") (c .before .before .before .before .before .before .before .before .args .forwardings)) 0 (c .before .before .before .before .before .before .before .before .args .room .now)
-    (listed-fits (c .before .before .before .before .before .before .before .before .args .list .now) (c .before .before .before .before .before .before .before .before .args .forwardings) (c .before .before .before .before .before .before .before .before .args .room .now) (λ i. c .before .before .before .before .before .before .before .shared-slice-known .given i .fits) (c .before .before .before .before .before .before .before .before .pre .0) (omega arith) (c .before .before .before .before .before .before .before .before .pre .1)) (c .before .before .before .before .put-list .ensures)
+    let back = c .before .before .before .before .before .before in
+    let begun = back .before .before in
+    let a = begun .args in
+    fits-then (listText (a .list .now)) (toldLine (ascii "forwardings ") (a .forwardings)) 0 (a .room .now)
+    (listed-fits (a .list .now) (a .forwardings) (a .room .now) (λ i. back .before .shared-slice-known .given i .fits) (begun .pre .0) (omega arith) (begun .pre .1)) (c .before .before .before .before .put-list .ensures)
 
 returns : tie.Need-returns
 returns c =
-    puts-then (listText (c .before .before .before .before .before .before .before .before .before .before .before .args .list .now)) (toldLine (ascii "forwardings ") (c .before .before .before .before .before .before .before .before .before .before .before .args .forwardings)) 0 (c .before .before .before .before .before .before .before .before .before .before .before .args .room .now)
-    (listed-fits (c .before .before .before .before .before .before .before .before .before .before .before .args .list .now) (c .before .before .before .before .before .before .before .before .before .before .before .args .forwardings) (c .before .before .before .before .before .before .before .before .before .before .before .args .room .now) (λ i. c .before .before .before .before .before .before .before .before .before .before .shared-slice-known .given i .fits) (c .before .before .before .before .before .before .before .before .before .before .before .pre .0) (omega arith) (c .before .before .before .before .before .before .before .before .before .before .before .pre .1)) (c .before .before .before .before .before .before .before .put-list .ensures) (c .before .before .put-told-line .ensures)
+    let back = c .before .before .before .before .before .before in
+    let begun = back .before .before .before .before .before in
+    let a = begun .args in
+    puts-then (listText (a .list .now)) (toldLine (ascii "forwardings ") (a .forwardings)) 0 (a .room .now)
+    (listed-fits (a .list .now) (a .forwardings) (a .room .now) (λ i. back .before .before .before .before .shared-slice-known .given i .fits) (begun .pre .0) (omega arith) (begun .pre .1)) (back .before .put-list .ensures) (c .before .before .put-told-line .ensures)
 
 pub put-listed-spec : {M : Type 1} → statement M
 put-listed-spec =

@@ -7,7 +7,8 @@ use Rattle.report.proofs.put_refused.Tie as tie
 
 put-told-line-requires : tie.Need-put-told-line-requires
 put-told-line-requires c κs =
-    refused-fits (c .before .before .before .args .refused) (c .before .before .before .args .room .now) (omega arith) (c .before .before .before .pre)
+    let begun = c .before .before .before in
+    refused-fits (begun .args .refused) (begun .args .room .now) (omega arith) (begun .pre)
 
 pub put-refused-spec : {M : Type 1} → statement M
 put-refused-spec =

@@ -11,11 +11,13 @@ returns c =
 
 returns-2 : tie.Need-returns-2
 returns-2 c =
-    puts-as (sym (report-many (c .before .before .before .before .before .before .before .before .args .input .now) (c .before .before .before .before .if2 .taken))) (c .before .before .put-refused2 .ensures)
+    let back = c .before .before .before .before .before .before in
+    puts-as (sym (report-many (back .before .before .args .input .now) (c .before .before .before .before .if2 .taken))) (c .before .before .put-refused2 .ensures)
 
 returns-3 : tie.Need-returns-3
 returns-3 c =
-    puts-as (sym (report-traced (c .before .before .before .before .before .before .before .before .args .input .now) (c .before .before .before .before .before .if1 .left) (c .before .before .before .before .if2 .left))) (c .before .before .put-trace .ensures)
+    let back = c .before .before .before .before .before .before in
+    puts-as (sym (report-traced (back .before .before .args .input .now) (c .before .before .before .before .before .if1 .left) (c .before .before .before .before .if2 .left))) (c .before .before .put-trace .ensures)
 
 pub put-report-spec : {M : Type 1} → statement M
 put-report-spec =

@@ -32,8 +32,9 @@ slice-aggregate-put-listed c =
 
 put-listed-requires : tie.Need-put-listed-requires
 put-listed-requires c κs =
-    let trace = c .before .before .before .before .before .before .trace in
-    let back = c .before .before .before .before .before .before in
+    let then = c .before .before .before .before .before .before in
+    let trace = then .trace in
+    let back = then in
     let further = back .before .before .before .before .before .before in
     let begun = further .before in
     let within = array-share-prefix-list (c .before .before) in
@@ -41,8 +42,9 @@ put-listed-requires c κs =
 
 returns-2 : tie.Need-returns-2
 returns-2 c =
-    let if1 = c .before .before .before .before .before .before .if1 in
-    let back = c .before .before .before .before .before .before in
+    let then = c .before .before .before .before .before .before in
+    let if1 = then .if1 in
+    let back = then in
     let trace = back .before .before .before .trace in
     let further = back .before .before .before .before .before .before in
     let begun = further .before .before .before .before in

@@ -6,11 +6,14 @@ use Rattle.report.proofs.report.Tie as tie
 
 returns : tie.Need-returns
 returns c =
-    unroomed (c .before .before .before .args .input .now) (c .before .before .before .args .room .now) (c .if1 .taken)
+    let a = c .before .before .before .args in
+    unroomed (a .input .now) (a .room .now) (c .if1 .taken)
 
 returns-2 : tie.Need-returns-2
 returns-2 c =
-    roomed (c .before .before .before .before .before .before .before .args .input .now) (c .before .before .before .before .before .before .before .args .room .now) (c .before .before .before .before .if1 .left) (c .before .before .put-report .ensures)
+    let back = c .before .before .before .before .before .before in
+    let a = back .before .args in
+    roomed (a .input .now) (a .room .now) (c .before .before .before .before .if1 .left) (c .before .before .put-report .ensures)
 
 pub report-spec : {M : Type 1} → statement M
 report-spec = tie.close (tie.spec returns (λ c κs. search needs) (λ c. search needs) returns-2)

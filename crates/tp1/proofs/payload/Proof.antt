@@ -18,9 +18,11 @@ returns-2 c =
 
 returns-3 : tie.Need-returns-3
 returns-3 c =
-    let n = length (c .before .before .before .before .before .before .before .args .octets .now) in
-    let z : n - 1 - c .before .before .head-of .result ≡ 0 = omega arith in
-    rw (c .before .before .before .before .answer .given .1, ← c .before .before .head-of .ensures, le-ltb _ _ (c .before .if1 .left), z) (record { holds = refl; block = refl; offset = omega arith })
+    let at-head-of = c .before .before .head-of in
+    let back = c .before .before .before .before .before .before in
+    let n = length (back .before .args .octets .now) in
+    let z : n - 1 - at-head-of .result ≡ 0 = omega arith in
+    rw (c .before .before .before .before .answer .given .1, ← at-head-of .ensures, le-ltb _ _ (c .before .if1 .left), z) (record { holds = refl; block = refl; offset = omega arith })
 
 pub payload-spec : {M : Type 1} → statement M
 payload-spec =

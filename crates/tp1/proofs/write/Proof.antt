@@ -26,7 +26,8 @@ add-size-2 c =
 
 returns : tie.Need-returns
 returns c =
-    let e = size-is (c .before .before .before .before .before .before .args .meaning) (c .before .before .before .before .before .before .args .payload .now) _ (c .before .head-of .ensures) in
+    let a = c .before .before .before .before .before .before .args in
+    let e = size-is (a .meaning) (a .payload .now) _ (c .before .head-of .ensures) in
     record { answered = sym (unroomed-iff _ _ _ .1 (sym (c .before .before .before .in-range .ensures) ∙ c .before .before .if1 .taken, omega arith)); left = refl }
 
 put-requires : tie.Need-put-requires
@@ -35,8 +36,10 @@ put-requires c κs =
 
 returns-2 : tie.Need-returns-2
 returns-2 c =
-    let e = size-is (c .before .before .before .before .before .before .before .before .before .before .args .meaning) (c .before .before .before .before .before .before .before .before .before .before .args .payload .now) _ (c .before .before .before .before .before .head-of .ensures) in
-    record { answered = sym (put-iff _ _ _ _ .1 (sym (c .before .before .before .before .before .before .before .in-range .ensures) ∙ c .before .before .before .before .before .before .if1 .taken, (omega arith, e))); left = c .before .before .put .ensures }
+    let back = c .before .before .before .before .before .before in
+    let a = back .before .before .before .before .args in
+    let e = size-is (a .meaning) (a .payload .now) _ (c .before .before .before .before .before .head-of .ensures) in
+    record { answered = sym (put-iff _ _ _ _ .1 (sym (back .before .in-range .ensures) ∙ c .before .before .before .before .before .before .if1 .taken, (omega arith, e))); left = c .before .before .put .ensures }
 
 returns-3 : tie.Need-returns-3
 returns-3 c =

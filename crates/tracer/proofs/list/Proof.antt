@@ -8,8 +8,9 @@ use Rattle.tracer.proofs.list.Tie as tie
 
 returns : tie.Need-returns
 returns c =
-    let spread = c .before .before .before .before .before .before .spread in
-    let back = c .before .before .before .before .before .before in
+    let then = c .before .before .before .before .before .before in
+    let spread = then .spread in
+    let back = then in
     let letting = back .before .before .before .before .before .letting in
     let further = back .before .before .before .before .before .before in
     let begun = further .before .before .before .before in

@@ -12,8 +12,9 @@ returns c =
 returns-2 : tie.Need-returns-2
 unfolding isRepetition
 returns-2 c =
-    let meaning-in2 = c .before .before .before .before .before .before .meaning-in2 in
-    let back = c .before .before .before .before .before .before in
+    let then = c .before .before .before .before .before .before in
+    let meaning-in2 = then .meaning-in2 in
+    let back = then in
     rw (← back .before .before .meaning-in .ensures, back .before .if1 .left, ← meaning-in2 .ensures)
 
 pub is-repetition-spec : {M : Type 1} → statement M

@@ -10,18 +10,20 @@ returns c =
 
 returns-2 : tie.Need-returns-2
 returns-2 c =
+    let then = c .before .before .before .before .before .before in
     let if2 = c .before .before .before .before .if2 in
     let table-fits = c .before .before .before .before .before .table-fits in
-    let if1 = c .before .before .before .before .before .before .if1 in
-    let back = c .before .before .before .before .before .before in
+    let if1 = then .if1 in
+    let back = then in
     rw (← back .before .before .are-codes .ensures, if1 .left, ← table-fits .ensures, if2 .taken, c .before .if3 .taken, lt-ltb _ _ (c .if4 .taken))
 
 returns-3 : tie.Need-returns-3
 returns-3 c =
+    let then = c .before .before .before .before .before .before in
     let if2 = c .before .before .before .before .if2 in
     let table-fits = c .before .before .before .before .before .table-fits in
-    let if1 = c .before .before .before .before .before .before .if1 in
-    let back = c .before .before .before .before .before .before in
+    let if1 = then .if1 in
+    let back = then in
     rw (← back .before .before .are-codes .ensures, if1 .left, ← table-fits .ensures, if2 .taken, c .before .if3 .taken, le-ltb _ _ (c .if4 .left))
 
 returns-4 : tie.Need-returns-4

@@ -7,9 +7,10 @@ use Rattle.coupler.proofs.forwarding.pass_on.Tie as tie
 
 returns : tie.Need-returns
 returns c =
+    let then = c .before .before .before .before .before .before in
     let forward = c .before .before .forward in
-    let if1 = c .before .before .before .before .before .before .if1 in
-    let back = c .before .before .before .before .before .before in
+    let if1 = then .if1 in
+    let back = then in
     let is-allowed = back .before .before .before .before .is-allowed in
     let is-own = back .before .before .before .before .before .is-own in
     let kind-of = back .before .before .before .before .before .before .kind-of in
@@ -23,10 +24,11 @@ returns c =
 
 returns-2 : tie.Need-returns-2
 returns-2 c =
+    let then = c .before .before .before .before .before .before in
     let is-allowed = c .before .before .before .before .is-allowed in
     let is-own = c .before .before .before .before .before .is-own in
-    let kind-of = c .before .before .before .before .before .before .kind-of in
-    let back = c .before .before .before .before .before .before in
+    let kind-of = then .kind-of in
+    let back = then in
     let begun = back .before .before .before .before in
     let stops = ap (λ (b : Bool). b && not (begun .args .repetition)) (sym (is-allowed .ensures)) ∙ c .if1 .left in
     record { outcome = rw (c .before .acknowledgement .ensures, is-own .ensures, kind-of .ensures, is-allowed .ensures, stops); left = rw stops refl }

@@ -9,9 +9,10 @@ use Rattle.coupler.proofs.forwarding.receive.Tie as tie
 
 pass-on-requires : tie.Need-pass-on-requires
 pass-on-requires c κs =
+    let then = c .before .before .before .before .before .before in
     let answer2 = c .before .before .before .before .answer2 in
-    let hear = c .before .before .before .before .before .before .hear in
-    let back = c .before .before .before .before .before .before in
+    let hear = then .hear in
+    let back = then in
     let shared-slice-known3 = back .before .before .before .before .shared-slice-known3 in
     let further = back .before .before .before .before .before .before in
     let begun = further .before in

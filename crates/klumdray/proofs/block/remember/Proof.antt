@@ -7,7 +7,8 @@ use Rattle.klumdray.proofs.block.remember.Tie as tie
 returns : tie.Need-returns
 unfolding rememberedAt
 returns c =
-    rw (← c .before .before .before .before .before .before .before .before .before .before .high-octet .ensures, ← c .before .before .before .before .before .before .before .before .before .low-octet .ensures, ← c .before .before .before .before .before .before .lay .ensures) (c .before .before .lay2 .ensures)
+    let back = c .before .before .before .before .before .before in
+    rw (← back .before .before .before .before .high-octet .ensures, ← back .before .before .before .low-octet .ensures, ← c .before .before .before .before .before .before .lay .ensures) (c .before .before .lay2 .ensures)
 
 pub remember-spec : {M : Type 1} → statement M
 remember-spec =

@@ -8,19 +8,23 @@ use Rattle.klumdray.proofs.numbers.flags_of.Tie as tie
 
 add-result : tie.Need-add-result
 add-result c =
-    omega (arith, c .before .flag .ensures, c .flag2 .ensures, weigh-most (c .before .before .before .before .args .meaning .extended) 1, weigh-most (c .before .before .before .before .args .meaning .first) 2)
+    let a = c .before .before .before .before .args in
+    omega (arith, c .before .flag .ensures, c .flag2 .ensures, weigh-most (a .meaning .extended) 1, weigh-most (a .meaning .first) 2)
 
 add-result-2 : tie.Need-add-result-2
 add-result-2 c =
-    omega (arith, c .before .flag .ensures, c .flag2 .ensures, weigh-most (c .before .before .before .before .args .meaning .extended) 1, weigh-most (c .before .before .before .before .args .meaning .first) 2)
+    let a = c .before .before .before .before .args in
+    omega (arith, c .before .flag .ensures, c .flag2 .ensures, weigh-most (a .meaning .extended) 1, weigh-most (a .meaning .first) 2)
 
 add-result-3 : tie.Need-add-result-3
 add-result-3 c =
-    omega (arith, c .before .before .flag .ensures, c .before .flag2 .ensures, c .flag3 .ensures, weigh-most (c .before .before .before .before .before .args .meaning .extended) 1, weigh-most (c .before .before .before .before .before .args .meaning .first) 2, weigh-most (c .before .before .before .before .before .args .meaning .group) 16)
+    let a = c .before .before .before .before .before .args in
+    omega (arith, c .before .before .flag .ensures, c .before .flag2 .ensures, c .flag3 .ensures, weigh-most (a .meaning .extended) 1, weigh-most (a .meaning .first) 2, weigh-most (a .meaning .group) 16)
 
 add-result-4 : tie.Need-add-result-4
 add-result-4 c =
-    omega (arith, c .before .before .flag .ensures, c .before .flag2 .ensures, c .flag3 .ensures, weigh-most (c .before .before .before .before .before .args .meaning .extended) 1, weigh-most (c .before .before .before .before .before .args .meaning .first) 2, weigh-most (c .before .before .before .before .before .args .meaning .group) 16)
+    let a = c .before .before .before .before .before .args in
+    omega (arith, c .before .before .flag .ensures, c .before .flag2 .ensures, c .flag3 .ensures, weigh-most (a .meaning .extended) 1, weigh-most (a .meaning .first) 2, weigh-most (a .meaning .group) 16)
 
 returns : tie.Need-returns
 unfolding flagsOf

@@ -9,15 +9,18 @@ use Rattle.klumdray.proofs.numbers.of_message.Tie as tie
 
 add-marks : tie.Need-add-marks
 add-marks c =
-    omega (arith, c .before .of-code .ensures, code-most (c .before .before .before .args .message .code), c .flag .ensures, weigh-most (c .before .before .before .args .message .error) 4)
+    let a = c .before .before .before .args in
+    omega (arith, c .before .of-code .ensures, code-most (a .message .code), c .flag .ensures, weigh-most (a .message .error) 4)
 
 mul-result : tie.Need-mul-result
 mul-result c =
-    omega (arith, c .before .before .of-code .ensures, code-most (c .before .before .before .before .args .message .code), c .before .flag .ensures, weigh-most (c .before .before .before .before .args .message .error) 4)
+    let a = c .before .before .before .before .args in
+    omega (arith, c .before .before .of-code .ensures, code-most (a .message .code), c .before .flag .ensures, weigh-most (a .message .error) 4)
 
 add-result : tie.Need-add-result
 add-result c =
-    omega (arith, c .before .before .of-code .ensures, code-most (c .before .before .before .before .args .message .code), c .before .flag .ensures, weigh-most (c .before .before .before .before .args .message .error) 4, c .of-meaning .ensures, meaning-below (c .before .before .before .before .args .message .meaning) (c .before .before .before .before .args .payload) (omega arith) (omega arith))
+    let a = c .before .before .before .before .args in
+    omega (arith, c .before .before .of-code .ensures, code-most (a .message .code), c .before .flag .ensures, weigh-most (a .message .error) 4, c .of-meaning .ensures, meaning-below (a .message .meaning) (a .payload) (omega arith) (omega arith))
 
 returns : tie.Need-returns
 unfolding messageNumber

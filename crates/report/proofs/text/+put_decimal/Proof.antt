@@ -32,7 +32,9 @@ known t = (put-digit-reads.Asked, put-digit-reads.Learnt, put-decimal-below t, p
 
 put-decimal-put-digit-requires : (t : ℕ) → put-decimal-lts.Need-put-digit-requires (known t) (put-decimal-at t) put-decimal.Post
 put-decimal-put-digit-requires t c κs =
-    subst (λ (s : List ℕ). Fits s (c .before .before .before .args .at) (c .before .before .before .args .room .now)) (decimal-one (c .before .before .before .args .number) (c .before .if1 .taken)) (c .before .before .before .pre .1)
+    let begun = c .before .before .before in
+    let a = begun .args in
+    subst (λ (s : List ℕ). Fits s (a .at) (a .room .now)) (decimal-one (a .number) (c .before .if1 .taken)) (begun .pre .1)
 
 put-decimal-same-length : (t : ℕ) → put-decimal-lts.Need-same-length (known t) (put-decimal-at t) put-decimal.Post
 put-decimal-same-length t c =
@@ -44,18 +46,23 @@ put-decimal-returns t c =
 
 put-decimal-put-decimal-requires : (t : ℕ) → put-decimal-lts.Need-put-decimal-requires (known t) (put-decimal-at t) put-decimal.Post
 put-decimal-put-decimal-requires t c κs =
-    let n = c .before .before .before .args .number in
-    let at = c .before .before .before .args .at in
-    let room = c .before .before .before .args .room .now in
+    let begun = c .before .before .before in
+    let a = begun .args in
+    let n = a .number in
+    let at = a .at in
+    let room = a .room .now in
     let h : 10 ≤ n = c .before .if1 .left in
-    (omega (arith, c .before .before .before .pre .0), fits-first (decimal (n / 10)) (digit (n % 10)) at room (fits-more n at room h (c .before .before .before .pre .1)))
+    (omega (arith, begun .pre .0), fits-first (decimal (n / 10)) (digit (n % 10)) at room (fits-more n at room h (begun .pre .1)))
 
 put-decimal-put-digit-requires-2 : (t : ℕ) → put-decimal-lts.Need-put-digit-requires-2 (known t) (put-decimal-at t) put-decimal.Post
 put-decimal-put-digit-requires-2 t c κs =
-    let n = c .before .before .before .before .before .before .before .args .number in
-    let at = c .before .before .before .before .before .before .before .args .at in
-    let room = c .before .before .before .before .before .before .before .args .room .now in
-    fits-then (decimal (n / 10)) (digit (n % 10)) at room (fits-more n at room (c .before .before .before .before .before .if1 .left) (c .before .before .before .before .before .before .before .pre .1)) (c .before .before .before .put-decimal .ensures)
+    let back = c .before .before .before .before .before .before in
+    let begun = back .before in
+    let a = begun .args in
+    let n = a .number in
+    let at = a .at in
+    let room = a .room .now in
+    fits-then (decimal (n / 10)) (digit (n % 10)) at room (fits-more n at room (c .before .before .before .before .before .if1 .left) (begun .pre .1)) (c .before .before .before .put-decimal .ensures)
 
 put-decimal-same-length-2 : (t : ℕ) → put-decimal-lts.Need-same-length-2 (known t) (put-decimal-at t) put-decimal.Post
 put-decimal-same-length-2 t c =
@@ -63,7 +70,10 @@ put-decimal-same-length-2 t c =
 
 put-decimal-returns-2 : (t : ℕ) → put-decimal-lts.Need-returns-2 (known t) (put-decimal-at t) put-decimal.Post
 put-decimal-returns-2 t c =
-    puts-more (c .before .before .before .before .before .before .before .before .before .before .args .number) (c .before .before .before .before .before .before .before .before .before .before .args .at) (c .before .before .before .before .before .before .before .before .before .before .args .room .now) (c .before .before .before .before .before .before .before .before .if1 .left) (c .before .before .before .before .before .before .before .before .before .before .pre .1) (c .before .before .before .before .before .before .put-decimal .ensures) (c .before .before .put-digit2 .ensures)
+    let back = c .before .before .before .before .before .before in
+    let begun = back .before .before .before .before in
+    let a = begun .args in
+    puts-more (a .number) (a .at) (a .room .now) (back .before .before .if1 .left) (begun .pre .1) (c .before .before .before .before .before .before .put-decimal .ensures) (c .before .before .put-digit2 .ensures)
 
 pub +put-decimal-spec : {M : Type 1} → statement M
 +put-decimal-spec = close μ-put-decimal λ t. put-decimal-lts.spec (known t) (put-decimal-at t) put-decimal.Post

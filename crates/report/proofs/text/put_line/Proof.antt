@@ -6,27 +6,50 @@ use Rattle.report.proofs.text.put_line.Tie as tie
 
 put-decimal-requires : tie.Need-put-decimal-requires
 put-decimal-requires c κs =
-    fits-area (c .before .before .args .line) (c .before .before .args .count) (c .before .before .args .crossed) (c .before .before .args .at) (c .before .before .args .room .now) (c .before .before .pre)
+    let begun = c .before .before in
+    let a = begun .args in
+    fits-area (a .line) (a .count) (a .crossed) (a .at) (a .room .now) (begun .pre)
 
 put-told-requires : tie.Need-put-told-requires
 put-told-requires c κs =
-    fits-point (c .before .before .before .before .before .before .before .args .line) (c .before .before .before .before .before .before .before .args .count) (c .before .before .before .before .before .before .before .args .crossed) (c .before .before .before .before .before .before .before .args .at) (c .before .before .before .before .before .before .before .args .room .now) (c .before .before .before .before .before .before .before .pre) (c .before .before .before .before .put-decimal .ensures)
+    let back = c .before .before .before .before .before .before in
+    let begun = back .before in
+    let a = begun .args in
+    fits-point (a .line) (a .count) (a .crossed) (a .at) (a .room .now) (begun .pre) (c .before .before .before .before .put-decimal .ensures)
 
 put-told-requires-2 : tie.Need-put-told-requires-2
 put-told-requires-2 c κs =
-    fits-count (c .before .before .before .before .before .before .before .before .before .before .before .before .args .line) (c .before .before .before .before .before .before .before .before .before .before .before .before .args .count) (c .before .before .before .before .before .before .before .before .before .before .before .before .args .crossed) (c .before .before .before .before .before .before .before .before .before .before .before .before .args .at) (c .before .before .before .before .before .before .before .before .before .before .before .before .args .room .now) (c .before .before .before .before .before .before .before .before .before .before .before .before .pre) (c .before .before .before .before .before .before .before .before .before .put-decimal .ensures) (c .before .before .before .before .put-told .ensures)
+    let back = c .before .before .before .before .before .before in
+    let begun = back .before .before .before .before .before .before in
+    let a = begun .args in
+    fits-count (a .line) (a .count) (a .crossed) (a .at) (a .room .now) (begun .pre) (back .before .before .before .put-decimal .ensures) (c .before .before .before .before .put-told .ensures)
 
 put-told-requires-3 : tie.Need-put-told-requires-3
 put-told-requires-3 c κs =
-    fits-crossed (c .before .before .before .before .before .before .before .before .before .before .before .before .before .before .before .before .before .args .line) (c .before .before .before .before .before .before .before .before .before .before .before .before .before .before .before .before .before .args .count) (c .before .before .before .before .before .before .before .before .before .before .before .before .before .before .before .before .before .args .crossed) (c .before .before .before .before .before .before .before .before .before .before .before .before .before .before .before .before .before .args .at) (c .before .before .before .before .before .before .before .before .before .before .before .before .before .before .before .before .before .args .room .now) (c .before .before .before .before .before .before .before .before .before .before .before .before .before .before .before .before .before .pre) (c .before .before .before .before .before .before .before .before .before .before .before .before .before .before .put-decimal .ensures) (c .before .before .before .before .before .before .before .before .before .put-told .ensures) (c .before .before .before .before .put-told2 .ensures)
+    let back = c .before .before .before .before .before .before in
+    let further = back .before .before .before .before .before .before in
+    let begun = further .before .before .before .before .before in
+    let a = begun .args in
+    fits-crossed (a .line) (a .count) (a .crossed) (a .at) (a .room .now) (begun .pre) (further .before .before .put-decimal .ensures) (back .before .before .before .put-told .ensures) (c .before .before .before .before .put-told2 .ensures)
 
 put-requires : tie.Need-put-requires
 put-requires c κs =
-    fits-end (c .before .before .before .before .before .before .before .before .before .before .before .before .before .before .before .before .before .before .before .before .before .before .args .line) (c .before .before .before .before .before .before .before .before .before .before .before .before .before .before .before .before .before .before .before .before .before .before .args .count) (c .before .before .before .before .before .before .before .before .before .before .before .before .before .before .before .before .before .before .before .before .before .before .args .crossed) (c .before .before .before .before .before .before .before .before .before .before .before .before .before .before .before .before .before .before .before .before .before .before .args .at) (c .before .before .before .before .before .before .before .before .before .before .before .before .before .before .before .before .before .before .before .before .before .before .args .room .now) (c .before .before .before .before .before .before .before .before .before .before .before .before .before .before .before .before .before .before .before .before .before .before .pre) (c .before .before .before .before .before .before .before .before .before .before .before .before .before .before .before .before .before .before .before .put-decimal .ensures) (c .before .before .before .before .before .before .before .before .before .before .before .before .before .before .put-told .ensures) (c .before .before .before .before .before .before .before .before .before .put-told2 .ensures) (c .before .before .before .before .put-told3 .ensures)
+    let back = c .before .before .before .before .before .before in
+    let further = back .before .before .before .before .before .before in
+    let furthest = further .before .before .before .before .before .before in
+    let begun = furthest .before .before .before .before in
+    let a = begun .args in
+    fits-end (a .line) (a .count) (a .crossed) (a .at) (a .room .now) (begun .pre) (furthest .before .put-decimal .ensures) (further .before .before .put-told .ensures) (back .before .before .before .put-told2 .ensures) (c .before .before .before .before .put-told3 .ensures)
 
 returns : tie.Need-returns
 returns c =
-    put-line (c .before .before .before .before .before .before .before .before .before .before .before .before .before .before .before .before .before .before .before .before .before .before .before .before .before .args .line) (c .before .before .before .before .before .before .before .before .before .before .before .before .before .before .before .before .before .before .before .before .before .before .before .before .before .args .count) (c .before .before .before .before .before .before .before .before .before .before .before .before .before .before .before .before .before .before .before .before .before .before .before .before .before .args .crossed) (c .before .before .before .before .before .before .before .before .before .before .before .before .before .before .before .before .before .before .before .before .before .before .before .before .before .args .at) (c .before .before .before .before .before .before .before .before .before .before .before .before .before .before .before .before .before .before .before .before .before .before .before .before .before .args .room .now) (c .before .before .before .before .before .before .before .before .before .before .before .before .before .before .before .before .before .before .before .before .before .before .before .before .before .pre) (c .before .before .before .before .before .before .before .before .before .before .before .before .before .before .before .before .before .before .before .before .before .before .put-decimal .ensures) (c .before .before .before .before .before .before .before .before .before .before .before .before .before .before .before .before .before .put-told .ensures) (c .before .before .before .before .before .before .before .before .before .before .before .before .put-told2 .ensures) (c .before .before .before .before .before .before .before .put-told3 .ensures) (c .before .before .put .ensures)
+    let back = c .before .before .before .before .before .before in
+    let further = back .before .before .before .before .before .before in
+    let furthest = further .before .before .before .before .before .before in
+    let first = furthest .before .before .before .before .before .before in
+    let begun = first .before in
+    let a = begun .args in
+    put-line (a .line) (a .count) (a .crossed) (a .at) (a .room .now) (begun .pre) (furthest .before .before .before .before .put-decimal .ensures) (further .before .before .before .before .before .put-told .ensures) (back .before .before .before .before .before .before .put-told2 .ensures) (back .before .put-told3 .ensures) (c .before .before .put .ensures)
 
 pub put-line-spec : {M : Type 1} → statement M
 put-line-spec =

@@ -16,7 +16,8 @@ abbrev μ-loop : tie.MeasureT-loop
 
 loop-holds : tie.Need-loop-holds Inv-loop μ-loop
 loop-holds c =
-    rest-none (c .before .before .args .list .now) (c .before .before .args .room .now) (c .before .before .pre)
+    let begun = c .before .before in
+    rest-none (begun .args .list .now) (begun .args .room .now) (begun .pre)
 
 sub-loop : tie.Need-sub-loop Inv-loop μ-loop
 sub-loop c =
@@ -48,15 +49,19 @@ put-line-requires c κs =
 
 add-from : tie.Need-add-from Inv-loop μ-loop
 add-from c =
-    omega (arith, c .before .before .before .before .before .before .before .before .loop .inv .within)
+    let back = c .before .before .before .before .before .before in
+    omega (arith, back .before .before .loop .inv .within)
 
 loop-less : tie.Need-loop-less Inv-loop μ-loop
 loop-less c =
-    omega (arith, c .before .before .before .before .before .before .before .before .loop .inv .within)
+    let back = c .before .before .before .before .before .before in
+    omega (arith, back .before .before .loop .inv .within)
 
 loop-again : tie.Need-loop-again Inv-loop μ-loop
 loop-again c =
-    rest-more (c .before .before .before .before .before .before .before .before .loop .inv) (c .before .before .before .before .before .before .before .loop-test .taken) (c .before .before .put-line .kept .1 .1 .1 .1 .0) (c .before .before .put-line .ensures)
+    let at-put-line = c .before .before .put-line in
+    let back = c .before .before .before .before .before .before in
+    rest-more (back .before .before .loop .inv) (back .before .loop-test .taken) (at-put-line .kept .1 .1 .1 .1 .0) (at-put-line .ensures)
 
 same-length : tie.Need-same-length Inv-loop μ-loop
 same-length c =

@@ -8,17 +8,24 @@ use Rattle.report.proofs.text.put_told.Tie as tie
 put-requires : tie.Need-put-requires
 unfolding told
 put-requires c κs =
-    fits-first (c .before .before .before .args .word .now) (decimal (c .before .before .before .args .number)) (c .before .before .before .args .at) (c .before .before .before .args .room .now) (c .before .before .before .pre)
+    let begun = c .before .before .before in
+    let a = begun .args in
+    fits-first (a .word .now) (decimal (a .number)) (a .at) (a .room .now) (begun .pre)
 
 put-decimal-requires : tie.Need-put-decimal-requires
 unfolding told
 put-decimal-requires c κs =
-    fits-then (c .before .before .before .before .before .before .before .args .word .now) (decimal (c .before .before .before .before .before .before .before .args .number)) (c .before .before .before .before .before .before .before .args .at) (c .before .before .before .before .before .before .before .args .room .now) (c .before .before .before .before .before .before .before .pre) (c .before .before .before .put .ensures)
+    let back = c .before .before .before .before .before .before in
+    let begun = back .before in
+    let a = begun .args in
+    fits-then (a .word .now) (decimal (a .number)) (a .at) (a .room .now) (begun .pre) (c .before .before .before .put .ensures)
 
 returns : tie.Need-returns
 unfolding told
 returns c =
-    puts-then _ _ (c .before .before .before .before .before .before .before .before .before .before .args .at) (c .before .before .before .before .before .before .before .before .before .before .args .room .now) (c .before .before .before .before .before .before .before .before .before .before .pre) (c .before .before .before .before .before .before .put .ensures) (c .before .before .put-decimal .ensures)
+    let back = c .before .before .before .before .before .before in
+    let begun = back .before .before .before .before in
+    puts-then _ _ (begun .args .at) (begun .args .room .now) (begun .pre) (c .before .before .before .before .before .before .put .ensures) (c .before .before .put-decimal .ensures)
 
 pub put-told-spec : {M : Type 1} → statement M
 put-told-spec = tie.close (tie.spec put-requires put-decimal-requires (λ c. search needs) returns)

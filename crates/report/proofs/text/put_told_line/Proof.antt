@@ -9,17 +9,24 @@ use Rattle.report.proofs.text.put_told_line.Tie as tie
 put-told-requires : tie.Need-put-told-requires
 unfolding toldLine
 put-told-requires c κs =
-    fits-first (told (c .before .before .before .args .word .now) (c .before .before .before .args .number)) (ascii "\n") (c .before .before .before .args .at) (c .before .before .before .args .room .now) (c .before .before .before .pre)
+    let begun = c .before .before .before in
+    let a = begun .args in
+    fits-first (told (a .word .now) (a .number)) (ascii "\n") (a .at) (a .room .now) (begun .pre)
 
 put-requires : tie.Need-put-requires
 unfolding toldLine
 put-requires c κs =
-    fits-then (told (c .before .before .before .before .before .before .before .before .args .word .now) (c .before .before .before .before .before .before .before .before .args .number)) (ascii "\n") (c .before .before .before .before .before .before .before .before .args .at) (c .before .before .before .before .before .before .before .before .args .room .now) (c .before .before .before .before .before .before .before .before .pre) (c .before .before .before .before .put-told .ensures)
+    let back = c .before .before .before .before .before .before in
+    let begun = back .before .before in
+    let a = begun .args in
+    fits-then (told (a .word .now) (a .number)) (ascii "\n") (a .at) (a .room .now) (begun .pre) (c .before .before .before .before .put-told .ensures)
 
 returns : tie.Need-returns
 unfolding toldLine
 returns c =
-    puts-then _ _ (c .before .before .before .before .before .before .before .before .before .before .before .args .at) (c .before .before .before .before .before .before .before .before .before .before .before .args .room .now) (c .before .before .before .before .before .before .before .before .before .before .before .pre) (c .before .before .before .before .before .before .before .put-told .ensures) (c .before .before .put .ensures)
+    let back = c .before .before .before .before .before .before in
+    let begun = back .before .before .before .before .before in
+    puts-then _ _ (begun .args .at) (begun .args .room .now) (begun .pre) (back .before .put-told .ensures) (c .before .before .put .ensures)
 
 pub put-told-line-spec : {M : Type 1} → statement M
 put-told-line-spec =

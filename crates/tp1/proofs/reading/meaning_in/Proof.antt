@@ -47,7 +47,8 @@ add-word-at c =
 
 returns : tie.Need-returns
 returns c =
-    looked-at (c .before .before .before .before .before .before .before .before .before .args .octets .now) _ _ _ _ _ _ _ _ (c .before .before .before .before .before .before .before .is-extended .ensures) (c .before .before .before .before .before .before .ctrle-at .ensures) (c .before .before .before .before .before .head-of .ensures) (c .before .before .before .before .octet .ensures) (c .before .before .before .octet2 .ensures) (c .before .before .word-at .ensures) (c .before .word-at2 .ensures) (c .meaning-of .ensures)
+    let back = c .before .before .before .before .before .before in
+    looked-at (back .before .before .before .args .octets .now) _ _ _ _ _ _ _ _ (back .before .is-extended .ensures) (c .before .before .before .before .before .before .ctrle-at .ensures) (c .before .before .before .before .before .head-of .ensures) (c .before .before .before .before .octet .ensures) (c .before .before .before .octet2 .ensures) (c .before .before .word-at .ensures) (c .before .word-at2 .ensures) (c .meaning-of .ensures)
 
 pub meaning-in-spec : {M : Type 1} → statement M
 meaning-in-spec =

@@ -8,19 +8,27 @@ use Rattle.tp1.proofs.writing.put.Tie as tie
 
 sub-lg : tie.Need-sub-lg
 sub-lg c =
-    ranges-of (c .before .before .args .meaning) _ (c .before .before .pre .0) .some
+    let begun = c .before .before in
+    ranges-of (begun .args .meaning) _ (begun .pre .0) .some
 
 cast-lg : tie.Need-cast-lg
 cast-lg c =
-    omega (arith, most-payload (c .before .before .args .meaning) _ (c .before .before .pre .0))
+    let begun = c .before .before in
+    omega (arith, most-payload (begun .args .meaning) _ (begun .pre .0))
 
 put-head-requires : tie.Need-put-head-requires
 put-head-requires c κs =
-    omega (arith, head-least (c .before .before .before .before .args .meaning .extended), ranges-of (c .before .before .before .before .args .meaning) _ (c .before .before .before .before .pre .0) .some)
+    let begun = c .before .before .before .before in
+    omega (arith, head-least (begun .args .meaning .extended), ranges-of (begun .args .meaning) _ (begun .pre .0) .some)
 
 returns : tie.Need-returns
 returns c =
-    frame-room (c .before .before .before .before .before .before .before .before .before .before .before .before .before .before .before .args .meaning) (c .before .before .before .before .before .before .before .before .before .before .before .before .before .before .before .args .payload .now) (c .before .before .before .before .before .before .before .before .before .before .before .before .before .before .before .args .room .now) (c .before .before .before .before .before .before .before .before .before .before .before .before .head-of .result) (c .before .before .before .before .before .before .before .before .before .before .before .before .head-of .ensures) (c .before .before .before .before .before .before .before .before .before .before .before .before .before .before .before .pre .1) (c .before .before .before .before .before .before .before .before .before .before .put-head .ensures) (c .before .before .before .before .before .before .lay .ensures) (c .before .before .seal .ensures)
+    let back = c .before .before .before .before .before .before in
+    let at-head-of = back .before .before .before .before .before .before .head-of in
+    let further = back .before .before .before .before .before .before in
+    let begun = further .before .before .before in
+    let a = begun .args in
+    frame-room (a .meaning) (a .payload .now) (a .room .now) (at-head-of .result) (at-head-of .ensures) (begun .pre .1) (back .before .before .before .before .put-head .ensures) (c .before .before .before .before .before .before .lay .ensures) (c .before .before .seal .ensures)
 
 pub put-spec : {M : Type 1} → statement M
 put-spec =

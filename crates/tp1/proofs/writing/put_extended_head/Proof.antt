@@ -5,7 +5,8 @@ use Rattle.tp1.proofs.writing.put_extended_head.Tie as tie
 
 returns : tie.Need-returns
 returns c =
-    rw (← c .before .before .before .before .before .before .before .before .before .before .control .ensures, ← c .before .before .before .before .before .before .before .before .before .ctrle .ensures, ← c .before .before .before .before .before .before .before .before .high-octet .ensures, ← c .before .before .before .before .before .before .before .low-octet .ensures, ← c .before .before .before .before .before .before .high-octet2 .ensures, ← c .before .before .before .before .before .low-octet2 .ensures) (c .before .before .lay .ensures)
+    let back = c .before .before .before .before .before .before in
+    rw (← back .before .before .before .before .control .ensures, ← back .before .before .before .ctrle .ensures, ← back .before .before .high-octet .ensures, ← back .before .low-octet .ensures, ← c .before .before .before .before .before .before .high-octet2 .ensures, ← c .before .before .before .before .before .low-octet2 .ensures) (c .before .before .lay .ensures)
 
 pub put-extended-head-spec : {M : Type 1} → statement M
 put-extended-head-spec =

@@ -6,11 +6,13 @@ use Rattle.tp1.proofs.writing.put_head.Tie as tie
 
 returns : tie.Need-returns
 returns c =
-    rw (head-extended (c .before .before .before .before .before .before .args .meaning) (c .before .before .before .before .before .before .args .lg) (c .before .before .before .before .if1 .taken)) (c .before .before .put-extended-head .ensures)
+    let a = c .before .before .before .before .before .before .args in
+    rw (head-extended (a .meaning) (a .lg) (c .before .before .before .before .if1 .taken)) (c .before .before .put-extended-head .ensures)
 
 returns-2 : tie.Need-returns-2
 returns-2 c =
-    rw (head-standard (c .before .before .before .before .before .before .args .meaning) (c .before .before .before .before .before .before .args .lg) (c .before .before .before .before .if1 .left)) (c .before .before .put-standard-head .ensures)
+    let a = c .before .before .before .before .before .before .args in
+    rw (head-standard (a .meaning) (a .lg) (c .before .before .before .before .if1 .left)) (c .before .before .put-standard-head .ensures)
 
 pub put-head-spec : {M : Type 1} → statement M
 put-head-spec =

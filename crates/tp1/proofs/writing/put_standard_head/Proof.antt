@@ -5,7 +5,8 @@ use Rattle.tp1.proofs.writing.put_standard_head.Tie as tie
 
 returns : tie.Need-returns
 returns c =
-    rw (← c .before .before .before .before .before .before .before .before .before .before .control .ensures, ← c .before .before .before .before .before .before .before .before .before .high-octet .ensures, ← c .before .before .before .before .before .before .before .before .low-octet .ensures, ← c .before .before .before .before .before .before .before .high-octet2 .ensures, ← c .before .before .before .before .before .before .low-octet2 .ensures, ← c .before .before .before .before .before .ctrle .ensures) (c .before .before .lay .ensures)
+    let back = c .before .before .before .before .before .before in
+    rw (← back .before .before .before .before .control .ensures, ← back .before .before .before .high-octet .ensures, ← back .before .before .low-octet .ensures, ← back .before .high-octet2 .ensures, ← c .before .before .before .before .before .before .low-octet2 .ensures, ← c .before .before .before .before .before .ctrle .ensures) (c .before .before .lay .ensures)
 
 pub put-standard-head-spec : {M : Type 1} → statement M
 put-standard-head-spec =

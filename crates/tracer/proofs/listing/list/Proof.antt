@@ -23,7 +23,8 @@ cast-list-line c =
 
 list-line-requires : tie.Need-list-line-requires Inv-loop μ-loop
 list-line-requires c κs =
-    omega (arith, c .before .before .loop .inv .few, c .before .before .loop .inv .same, c .before .before .before .before .pre)
+    let at-loop = c .before .before .loop in
+    omega (arith, at-loop .inv .few, at-loop .inv .same, c .before .before .before .before .pre)
 
 add-line : tie.Need-add-line Inv-loop μ-loop
 add-line c =
@@ -35,7 +36,9 @@ loop-less c =
 
 loop-again : tie.Need-loop-again Inv-loop μ-loop
 loop-again c =
-    listing-more (c .before .before .before .before .before .before .before .pre) (c .before .before .before .before .before .loop .inv) (c .before .before .before .before .loop-test .taken) (c .before .before .list-line .ensures .0) (c .before .before .list-line .ensures .1) (c .before .before .list-line .kept .1 .1 .1 .1 .0)
+    let at-list-line = c .before .before .list-line in
+    let back = c .before .before .before .before .before .before in
+    listing-more (back .before .pre) (c .before .before .before .before .before .loop .inv) (c .before .before .before .before .loop-test .taken) (at-list-line .ensures .0) (at-list-line .ensures .1) (at-list-line .kept .1 .1 .1 .1 .0)
 
 same-length : tie.Need-same-length Inv-loop μ-loop
 same-length c =

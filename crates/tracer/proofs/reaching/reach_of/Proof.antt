@@ -14,7 +14,8 @@ climb-requires c κs =
 
 returns : tie.Need-returns
 returns c =
-    reach-climbed (c .before .before .before .args .down .now) (c .before .before .before .args .up .now) (c .before .before .before .args .lines .now) (c .before .before .before .args .start) (c .before .before .before .args .count) (c .before .before .before .args .line) (sym (c .before .before .is-above .ensures) ∙ c .before .if1 .taken) (c .climb .ensures)
+    let a = c .before .before .before .args in
+    reach-climbed (a .down .now) (a .up .now) (a .lines .now) (a .start) (a .count) (a .line) (sym (c .before .before .is-above .ensures) ∙ c .before .if1 .taken) (c .climb .ensures)
 
 hand-requires : tie.Need-hand-requires
 hand-requires c κs =

@@ -28,7 +28,8 @@ cast-reach-of c =
 
 reach-of-requires : tie.Need-reach-of-requires Inv-loop μ-loop
 reach-of-requires c κs =
-    omega (arith, c .before .before .loop .inv .few (mainSide (c .before .before .loop .line)))
+    let at-loop = c .before .before .loop in
+    omega (arith, at-loop .inv .few (mainSide (at-loop .line)))
 
 array-write-lines : tie.Need-array-write-lines Inv-loop μ-loop
 array-write-lines c =
@@ -48,7 +49,8 @@ loop-less c =
 
 loop-again : tie.Need-loop-again Inv-loop μ-loop
 loop-again c =
-    spreading-more (c .before .before .before .before .before .args .down .now) (c .before .before .before .before .before .args .up .now) (c .before .before .before .before .loop .inv) (c .before .before .before .loop-test .taken) (c .before .reach-of .ensures)
+    let a = c .before .before .before .before .before .args in
+    spreading-more (a .down .now) (a .up .now) (c .before .before .before .before .loop .inv) (c .before .before .before .loop-test .taken) (c .before .reach-of .ensures)
     (⊎-elim (λ w. rw (lt-ltb 1 _ (w .0 .taken)) (w .1)) (λ w. rw (le-ltb 1 _ (w .0 .left)) (omega (arith, w .1))) (c .if1 .came))
 
 returns : tie.Need-returns Inv-loop μ-loop
