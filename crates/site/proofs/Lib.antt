@@ -1,5 +1,6 @@
 pub mod RecordLaws
-pub mod Judging
+pub mod RecordCount
+pub mod Surveying
+pub mod StartLaws
 pub mod LettingLaws
 pub mod Refusals
-pub mod RecordCount

@@ -1,19 +1,19 @@
 -- "A site is 0 to 255 records": each record of a well-formed site has a line of its own, and there are 255 beside 00h. The lines that stand
 -- in a list are counted; each record behind others adds one to that count.
-use Prim.Native.Nat.{ℕ, zero, suc, _+_, _/_, _%_, _≤_, _<_}
+use Prim.Native.Nat.{ℕ, zero, suc, _+_, _*_, _≤_, _<_}
 use mathlib.Core.Bool.{Bool, true, false, not, cond, _||_}
 use mathlib.Core.List.{List, [], _∷_}
-use mathlib.Core.Path.{_≡_, refl, ap}
+use mathlib.Core.Path.{_≡_, refl}
 use native.Mathlib.Omega.{arith}
 use lib.Dec.{eqb}
-use lib.ListN.{length, take, drop}
-use borrow.Author.Tests.{eqb-true, not-false, eq-eqb, ne-eqb}
+use lib.ListN.{length, take, drop, length-drop}
+use borrow.Author.Tests.{eq-eqb, ne-eqb}
 use Rattle.frame.specs.Order.{NoneOf}
 use Rattle.passing.specs.Settings.{areCodes}
 use Rattle.octets.proofs.Octets.{octets-take, octets-drop}
 use Rattle.octets.specs.Octets.{Octets}
-use Rattle.site.proofs.RecordLaws.{by-equal}
-use Rattle.site.specs.Records.{recordsBy, recordsOf, lineOf, codesOf}
+use Rattle.site.proofs.RecordLaws.{by-equal, size-some}
+use Rattle.site.specs.Records.{recordSize, recordsBy, recordsOf, lineOf, codesOf}
 use Rattle.site.specs.Stores.{Stores}
 use Rattle.site.specs.WellFormed.{isAmong, recordsTests, siteTests}
 
@@ -50,24 +50,38 @@ or-false : (a b : Bool) → a || b ≡ false → a ≡ false
 or-false true b e = e
 or-false false b e = refl
 
-records-most : (st : Stores) (lines : List ℕ) (k : ℕ) (site : List ℕ) → Octets site → isAmong 0 lines ≡ false → NoneOf (recordsTests st lines (recordsBy k site)) → k + standing lines 256 ≤ 255
-records-most st lines zero site o z n = omega (arith, standing-most lines z 255)
-records-most st lines (suc k) site o z n =
-    let r : List ℕ = take 12 site in
-    let below : lineOf r < 256 = octets-take 12 site o 2 in
-    let some : eqb (lineOf r) 0 ≡ false = or-false (eqb (lineOf r) 0) (not (areCodes (codesOf r))) (n .1 .0) in
-    let fresh : isAmong (lineOf r) lines ≡ false = n .1 .1 .1 .0 in
-    let more = records-most st (lineOf r ∷ lines) k (drop 12 site) (octets-drop 12 site o) (rw (some, z) refl) (n .1 .1 .1 .1) in
-    omega (arith, more, standing-more (lineOf r) lines fresh 256 below)
+-- so many records had these lines, each its own and none 00h
+pub record Counted (lines : List ℕ) (count : ℕ) : Type 0 where
+  free : isAmong 0 lines ≡ false
+  many : count ≤ standing lines 256
 
-records-length : (k : ℕ) (site : List ℕ) → length (recordsBy k site) ≡ k
-records-length zero site = refl
-records-length (suc k) site = ap suc (records-length k (drop 12 site))
+pub counted-none : Counted [] 0
+counted-none = record { free = refl; many = omega arith }
 
--- so many octets at most
+pub counted-most : {lines : List ℕ} {count : ℕ} → Counted lines count → count ≤ 255
+counted-most {lines} w = omega (arith, w .many, standing-most lines (w .free) 255)
+
+pub counted-more : {lines : List ℕ} {count : ℕ} → Counted lines count → (r : List ℕ) → lineOf r < 256
+    → (eqb (lineOf r) 0 || not (areCodes (codesOf r))) ≡ false → isAmong (lineOf r) lines ≡ false → Counted (lineOf r ∷ lines) (suc count)
+counted-more {lines} w r below set fresh =
+    let some : eqb (lineOf r) 0 ≡ false = or-false (eqb (lineOf r) 0) (not (areCodes (codesOf r))) set in
+    record { free = rw (some, w .free) refl; many = omega (arith, w .many, standing-more (lineOf r) lines fresh 256 below) }
+
+-- so many records at most, and so many octets
+most-by : (st : Stores) {lines : List ℕ} {count : ℕ} → Counted lines count → (k : ℕ) (s : List ℕ) → Octets s → length s ≤ k → NoneOf (recordsTests st lines (recordsBy k s))
+    → (length (recordsBy k s) + count ≤ 255) × (length s ≤ 12 * length (recordsBy k s))
+most-by st w zero s o h n = (omega (arith, counted-most w), omega arith)
+most-by st w (suc k) [] o h n = (omega (arith, counted-most w), omega arith)
+most-by st w (suc k) (x ∷ xs) o h n =
+    let s = x ∷ xs in
+    let z = recordSize s in
+    let left = length-drop z s in
+    let more = counted-more w (take z s) (octets-take z s o 2) (n .1 .0) (n .1 .1 .1 .0) in
+    let rest = most-by st more k (drop z s) (octets-drop z s o) (omega (arith, left, size-some s)) (n .1 .1 .1 .1) in
+    (omega (arith, rest .0), omega (arith, left, size-some s, rest .1))
+
 pub site-most : (st : Stores) (site : List ℕ) → Octets site → NoneOf (siteTests st site) → (length (recordsOf site) ≤ 255) × (length site ≤ 3060)
 unfolding siteTests recordsOf
 site-most st site o n =
-    let whole : length site % 12 ≡ 0 = eqb-true (length site % 12) 0 (not-false (eqb (length site % 12) 0) (n .1 .0)) in
-    let most = records-most st [] (length site / 12) site o refl (n .1 .1) in
-    (rw (records-length (length site / 12) site) (omega (arith, most)), omega (arith, whole, most))
+    let most = most-by st counted-none (length site) site o (omega arith) (n .1 .1) in
+    (omega (arith, most .0), omega (arith, most .0, most .1))

@@ -9,6 +9,7 @@ use Rattle.passing.specs.declared.Passage.the-variants.{NotFitted}
 use Rattle.passing.specs.declared.Passage.{Passage}
 use Rattle.site.specs.declared.BothWays.{BothWays}
 use Rattle.site.specs.Records.{lineOf, codesOf, tableNumber, couplerOf, isFitted}
+use Rattle.site.specs.Starts.{couplerFrom}
 use Rattle.site.specs.Stores.{Stores, tableOf}
 
 -- a record's coupler, asked with its line, codes and table
@@ -22,6 +23,10 @@ letsPass st kind destination direction r = isFitted r && recordPasses st kind de
 -- whether the coupler of a line is fitted and lets the telegram pass
 unfoldable pub lineLetsPass : Stores → ℕ → ℕ → List (List ℕ) → ℕ → ℕ → Bool
 lineLetsPass st kind destination records direction line = letsPass st kind destination direction (couplerOf line records)
+
+-- .. by the starts of the records
+unfoldable pub lineLetsPassBy : Stores → ℕ → ℕ → List ℕ → List ℕ → ℕ → ℕ → Bool
+lineLetsPassBy st kind destination site starts direction line = letsPass st kind destination direction (couplerFrom site starts line)
 
 -- a mark for each of the 256 lines
 pub record Marks (holds : ℕ → Bool) (marks : List Bool) : Type 0 where

@@ -1,19 +1,24 @@
 -- Document 01: "A site is 0 to 255 records of 12 octets: mark 43h 50h, line, four codes main to sub, four codes sub to main, table number."
 -- A record is the list of its octets; no octets stand for no coupler.
-use Prim.Native.Nat.{ℕ, zero, suc, _/_}
+use Prim.Native.Nat.{ℕ, zero, suc}
 use mathlib.Core.Bool.{Bool, not, cond, _&&_}
 use mathlib.Core.List.{List, [], _∷_}
 use lib.Dec.{eqb}
 use lib.ListN.{length, take, drop}
 use Rattle.octets.specs.Octets.{octetAt}
 
--- the records of a site, one behind the other
+-- how many octets the record takes that stands at the front of these
+unfoldable pub recordSize : List ℕ → ℕ
+recordSize s = 12
+
+-- the records of a site, one behind the other, each by its own size; the last is what is left
 abbrev pub recordsBy : ℕ → List ℕ → List (List ℕ)
-recordsBy zero site = []
-recordsBy (suc k) site = take 12 site ∷ recordsBy k (drop 12 site)
+recordsBy zero s = []
+recordsBy (suc k) [] = []
+recordsBy (suc k) (o ∷ os) = take (recordSize (o ∷ os)) (o ∷ os) ∷ recordsBy k (drop (recordSize (o ∷ os)) (o ∷ os))
 
 unfoldable pub recordsOf : List ℕ → List (List ℕ)
-recordsOf site = recordsBy (length site / 12) site
+recordsOf site = recordsBy (length site) site
 
 unfoldable pub isMarked : List ℕ → Bool
 isMarked r = eqb (octetAt r 0) 0x43 && eqb (octetAt r 1) 0x50

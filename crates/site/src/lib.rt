@@ -4,16 +4,25 @@ mod records;
 pub mod stores;
 
 ghost use mathlib.Core.Path.{_≡_};
-ghost use mathlib.Core.List.{[]};
-ghost use Rattle.frame.specs.Order.{firstOf};
+ghost use mathlib.Core.Bool.{true};
+ghost use mathlib.Core.List.{[], _∷_};
+ghost use Rattle.frame.specs.Order.{firstOf, _gives_};
 ghost use Rattle.site.specs.Stores.{stores};
 ghost use Rattle.site.specs.Records.{recordsOf};
-ghost use Rattle.site.specs.WellFormed.{hasTable, recordTests, recordsTests, siteTests};
+ghost use Rattle.site.specs.WellFormed.{hasTable, recordTests, recordsTests};
+ghost use Rattle.site.specs.Starts.{DidSurveyBy, DidSurvey, couplerFrom};
 ghost use Rattle.site.specs.Stages.{recordBothWays};
-ghost use Rattle.site.specs.Letting.{lineLetsPass, MarksBothWays, passageAt};
+ghost use Rattle.site.specs.Letting.{lineLetsPassBy, MarksBothWays, passageBy};
 use frame::Refusal;
 use frame::Verdict;
 use passing::Passage;
+
+// Whether a site is well-formed, and for each of the 256 lines where the record of its coupler starts;
+// FFFFh where there is none, and for every line of a site that is refused.
+pub struct Surveyed {
+    pub verdict: Verdict,
+    pub starts: [u16; 256],
+}
 
 // A mark for each of the 256 lines, of its coupler: main to sub and sub to main.
 pub struct BothWays {
@@ -57,41 +66,56 @@ fn judge_record<'a>(octets: &[u8], project: &'a [u8], own: &'a [u8], twice: bool
     }
 }
 
-// "then record by record: 16, 15 (line, codes), 18, 17 (at the second)"
-fn judge_records<'a>(site: &[u8], project: &'a [u8], own: &'a [u8]) -> Verdict
-    ensures { λ r. ⌜ r ≡ firstOf (recordsTests (stores (now (project .entry)) (now (own .entry))) [] (recordsOf (now (site .entry)))) ⌝ }
+fn refused(refusal: Refusal) -> Surveyed
+    ensures { λ r. ⌜ DidSurveyBy (true gives refusal ∷ []) [] r ⌝ }
 {
-    let mut seen = [false; 256];
-    let mut from = 0;
-    while site.len() - from >= 12 {
-        let octets = records::record_at(site, from);
-        let line = records::line_of(octets) as usize;
-        let judged = judge_record(octets, project, own, seen[line]);
-        let Verdict::Fine = judged else {
-            return judged;
-        };
-        seen[line] = true;
-        from += 12;
+    Surveyed {
+        verdict: Verdict::Refuse(refusal),
+        starts: [0xffff; 256],
     }
-    Verdict::Fine
 }
 
-// Whether a site and its stores are well-formed, or the first refusal of document 01's order.
-pub fn judge<'a>(site: &[u8], project: &'a [u8], own: &'a [u8]) -> Verdict
-    ensures { λ r. ⌜ r ≡ firstOf (siteTests (stores (now (project .entry)) (now (own .entry))) (now (site .entry))) ⌝ }
+// "then record by record: 16, 15 (line, codes), 18, 17 (at the second)": a line was seen before if its
+// start is noted.
+fn survey_records<'a>(site: &[u8], project: &'a [u8], own: &'a [u8]) -> Surveyed
+    ensures { λ r. ⌜ DidSurveyBy (recordsTests (stores (now (project .entry)) (now (own .entry))) [] (recordsOf (now (site .entry)))) (recordsOf (now (site .entry))) r ⌝ }
+{
+    let mut starts = [0xffff; 256];
+    let mut from: u16 = 0;
+    while (from as usize) < site.len() {
+        let octets = records::record_from(site, from);
+        let line = records::line_of(octets) as usize;
+        let twice = starts[line] != 0xffff;
+        let judged = judge_record(octets, project, own, twice);
+        if let Verdict::Refuse(refusal) = judged {
+            return refused(refusal);
+        }
+        starts[line] = from;
+        from += octets.len() as u16;
+    }
+    Surveyed {
+        verdict: Verdict::Fine,
+        starts,
+    }
+}
+
+// Whether a site and its stores are well-formed, or the first refusal of document 01's order; and where
+// each coupler's record starts.
+pub fn survey<'a>(site: &[u8], project: &'a [u8], own: &'a [u8]) -> Surveyed
+    ensures { λ r. ⌜ DidSurvey (stores (now (project .entry)) (now (own .entry))) (now (site .entry)) r ⌝ }
 {
     if stores::are_stores(project, own) {
         if site.len() % 12 == 0 {
-            judge_records(site, project, own)
+            survey_records(site, project, own)
         } else {
-            Verdict::Refuse(Refusal::WrongRecord)
+            refused(Refusal::WrongRecord)
         }
     } else {
-        Verdict::Refuse(Refusal::NoTable)
+        refused(Refusal::NoTable)
     }
 }
 
-// Whether a record's coupler lets the telegram pass, main to sub and sub to main. Only a group asks
+// Whether a record's coupler is fitted and lets the telegram pass, main to sub and sub to main. Only a group asks
 // for a table.
 fn lets_pass<'a>(
     octets: &[u8],
@@ -102,6 +126,9 @@ fn lets_pass<'a>(
 ) -> [bool; 2]
     ensures { λ r. ⌜ r ≡ recordBothWays (stores (now (project .entry)) (now (own .entry))) kind destination (now (octets .entry)) ⌝ }
 {
+    if octets.len() == 0 {
+        return [false, false];
+    }
     let line = records::line_of(octets);
     let codes = records::codes_of(octets);
     if kind == 1 {
@@ -121,23 +148,23 @@ fn lets_pass<'a>(
 // each record is read once, for both directions.
 pub fn letting<'a>(
     site: &[u8],
+    starts: &[u16; 256],
     project: &'a [u8],
     own: &'a [u8],
     kind: u8,
     destination: u16,
 ) -> BothWays
-    ensures { λ r. ⌜ MarksBothWays (lineLetsPass (stores (now (project .entry)) (now (own .entry))) kind destination (recordsOf (now (site .entry)))) r ⌝ }
+    ensures { λ r. ⌜ MarksBothWays (lineLetsPassBy (stores (now (project .entry)) (now (own .entry))) kind destination (now (site .entry)) (now (starts .entry))) r ⌝ }
 {
     let mut down = [false; 256];
     let mut up = [false; 256];
-    let mut from = 0;
-    while site.len() - from >= 12 {
-        let octets = records::record_at(site, from);
-        let line = records::line_of(octets) as usize;
+    let mut line: usize = 0;
+    while line < 256 {
+        let octets = records::record_from(site, starts[line]);
         let passes = lets_pass(octets, project, own, kind, destination);
         down[line] = passes[0];
         up[line] = passes[1];
-        from += 12;
+        line += 1;
     }
     BothWays { down, up }
 }
@@ -145,6 +172,7 @@ pub fn letting<'a>(
 // What the coupler of a line makes of a telegram that comes to it with this count.
 pub fn why_not<'a>(
     site: &[u8],
+    starts: &[u16; 256],
     project: &'a [u8],
     own: &'a [u8],
     line: u8,
@@ -153,9 +181,10 @@ pub fn why_not<'a>(
     destination: u16,
     count: u8,
 ) -> Passage
-    ensures { λ r. ⌜ r ≡ passageAt (stores (now (project .entry)) (now (own .entry))) kind destination (recordsOf (now (site .entry))) direction line count ⌝ }
+    ensures { λ r. ⌜ r ≡ passageBy (stores (now (project .entry)) (now (own .entry))) kind destination direction count (couplerFrom (now (site .entry)) (now (starts .entry)) line) ⌝ }
 {
-    let octets = records::coupler_of(site, line);
+    let at = line as usize;
+    let octets = records::record_from(site, starts[at]);
     if octets.len() == 0 {
         return Passage::NotFitted;
     }

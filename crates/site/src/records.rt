@@ -1,18 +1,19 @@
 // The records of a site, and what each says.
 ghost use mathlib.Core.Path.{_≡_};
-ghost use Rattle.site.specs.Records.{recordsOf, isMarked, lineOf, codesOf, tableNumber, couplerOf};
-ghost use Rattle.site.specs.Stages.{recordAt};
+ghost use Rattle.site.specs.Records.{isMarked, lineOf, codesOf, tableNumber};
+ghost use Rattle.site.specs.Starts.{recordFrom};
 
-// The record that starts at an index; empty where the site does not have it whole.
-pub(crate) fn record_at(site: &[u8], from: usize) -> &[u8]
-    ensures { λ r. ⌜ now r ≡ recordAt (now (site .entry)) from ⌝ }
+// The record that starts at an index: what is left of the site where it ends before.
+pub(crate) fn record_from(site: &[u8], start: u16) -> &[u8]
+    ensures { λ r. ⌜ now r ≡ recordFrom (now (site .entry)) start ⌝ }
 {
-    if site.len() < 12 {
-        return &site[..0];
+    let from = start as usize;
+    let to = from + 12;
+    if to <= site.len() {
+        return &site[from..to];
     }
-    if from <= site.len() - 12 {
-        let to = from + 12;
-        &site[from..to]
+    if from < site.len() {
+        &site[from..]
     } else {
         &site[..0]
     }
@@ -54,19 +55,4 @@ pub(crate) fn table_number(octets: &[u8]) -> u8
     ensures { λ r. ⌜ r ≡ tableNumber (now (octets .entry)) ⌝ }
 {
     octets::octet(octets, 11)
-}
-
-// The record of a line's coupler; empty where none is fitted.
-pub(crate) fn coupler_of(site: &[u8], line: u8) -> &[u8]
-    ensures { λ r. ⌜ now r ≡ couplerOf line (recordsOf (now (site .entry))) ⌝ }
-{
-    let mut found = site.len();
-    let mut from = 0;
-    while site.len() - from >= 12 {
-        if line_of(record_at(site, from)) == line {
-            found = from;
-        }
-        from += 12;
-    }
-    record_at(site, found)
 }

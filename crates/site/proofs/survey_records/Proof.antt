@@ -1,0 +1,84 @@
+-- The walk's law `Surveying`: a record that is fine moves the index on, one that is not decides.
+use Prim.Native.Nat.{_-_}
+use mathlib.Core.Path.{refl}
+use native.Mathlib.Omega.{arith}
+use lib.ListN.{length}
+use borrow.Author.Needs.{needs}
+use Rattle.site.proofs.RecordLaws.{record-size}
+use Rattle.site.proofs.Surveying.{Surveying, surveying-none, surveying-all, surveying-more, surveying-refused, surveying-few}
+use Rattle.site.specs.Stores.{stores}
+use Rattle.site.proofs.survey_records.Statement.{statement}
+use Rattle.site.proofs.survey_records.Tie as tie
+
+abbrev Inv-loop : tie.InvT-loop
+Inv-loop site project own starts₀ from₀ starts from =
+    Surveying (stores project own) site starts from
+
+abbrev μ-loop : tie.MeasureT-loop
+μ-loop site project own starts₀ from₀ starts from =
+    length site - from
+
+loop-holds : tie.Need-loop-holds Inv-loop μ-loop
+loop-holds c =
+    surveying-none _ _ _ refl
+
+cast-loop : tie.Need-cast-loop Inv-loop μ-loop
+cast-loop c =
+    omega (arith, surveying-few (c .loop .inv))
+
+returns : tie.Need-returns Inv-loop μ-loop
+returns c =
+    let judging = c .before .before .before .before in
+    let found = judging .before .before in
+    surveying-refused (found .before .before .loop .inv) (found .before .loop-test .taken) (found .record-from .ensures) (judging .before .line-of .ensures) (search needs) (judging .judge-record .ensures) _ (c .before .before .judged .given .1) (c .refused .ensures)
+
+cast-from : tie.Need-cast-from Inv-loop μ-loop
+cast-from c =
+    let found = c .before .before .before .before in
+    omega (arith, record-size _ _ (found .before .loop-test .taken) (found .record-from .ensures) .1)
+
+add-from : tie.Need-add-from Inv-loop μ-loop
+add-from c =
+    let found = c .before .before .before .before in
+    omega (arith, surveying-few (found .before .before .loop .inv), record-size _ _ (found .before .loop-test .taken) (found .record-from .ensures) .1)
+
+loop-less : tie.Need-loop-less Inv-loop μ-loop
+loop-less c =
+    let found = c .before .before .before .before in
+    omega (arith, found .before .loop-test .taken, record-size _ _ (found .before .loop-test .taken) (found .record-from .ensures) .0)
+
+loop-again : tie.Need-loop-again Inv-loop μ-loop
+loop-again c =
+    let judging = c .before .before in
+    let found = judging .before .before in
+    surveying-more (found .before .before .loop .inv) (found .before .loop-test .taken) (found .record-from .ensures) (judging .before .line-of .ensures) (search needs) (judging .judge-record .ensures) (c .enum-told .given .1)
+
+returns-2 : tie.Need-returns-2 Inv-loop μ-loop
+returns-2 c =
+    surveying-all (c .before .loop .inv) (c .loop-test .left)
+
+pub survey-records-spec : {M : Type 1} → statement M
+survey-records-spec =
+    tie.close
+    (tie.spec
+    Inv-loop
+    μ-loop
+    loop-holds
+    cast-loop
+    (λ c κs. search needs)
+    (λ c κs. search needs)
+    (λ c. search needs)
+    (λ c. search needs)
+    (λ c. search needs)
+    (λ c κs. search needs)
+    (λ c. search needs)
+    (λ c κs. search needs)
+    returns
+    (λ c. search needs)
+    (λ c. search needs)
+    (λ c. search needs)
+    cast-from
+    add-from
+    loop-less
+    loop-again
+    returns-2)
