@@ -9,15 +9,16 @@ use lib.Dec.{eqb}
 use lib.ListN.{length, getD}
 use borrow.Author.Tests.{ltb-false}
 use Rattle.frame.specs.declared.Verdict.{Verdict}
-use Rattle.frame.proofs.Order.{passed-iff}
-use Rattle.frame.specs.Order.{Test, firstOf}
-use Rattle.frame.specs.Refusals.{number}
+use Rattle.frame.proofs.Order.{passed-iff, first-passed, first-refused}
+use Rattle.frame.specs.Order.{firstOf}
 use Rattle.frame.specs.declared.Refusal.{Refusal}
 use Rattle.octets.specs.Room.{over}
 use Rattle.site.specs.Letting.{lineLetsPass, Marks}
 use Rattle.site.specs.Records.{recordsOf}
+use Rattle.site.specs.Starts.{DidSurvey}
 use Rattle.site.specs.Stores.{Stores}
-use Rattle.site.specs.WellFormed.{isAmong}
+use Rattle.site.specs.WellFormed.{isAmong, siteTests}
+use Rattle.site.specs.declared.Surveyed.{Surveyed}
 use Rattle.tracer.proofs.Crossings.{all-append}
 use Rattle.tracer.proofs.Forwardings.{count-same}
 use Rattle.tracer.proofs.ListLaws.{forwarded-lines}
@@ -27,7 +28,7 @@ use Rattle.tracer.specs.Lines.{mainSides, beforeCommon, Crossing, up, do
 use Rattle.tracer.specs.Listing.{crossingPasses, allPass, isListed, entry, eachBelow, countBelow, listed, linesListed, forwardings}
 use Rattle.tracer.specs.declared.Query.{Query}
 use Rattle.tracer.specs.Reaching.{reach, marked, isForwardedTo, Spread, isReached, entryBy}
-use Rattle.tracer.specs.Tracing.{traceTests, DidTrace}
+use Rattle.tracer.specs.Tracing.{askingTests, traceTests, refusedTrace, tracedBy, listBy, DidTrace}
 use Rattle.tracer.specs.Reaching.{DidList}
 use Rattle.tracer.specs.declared.Traced.{Traced}
 use Rattle.frame.specs.declared.Verdict.the-variants.{Fine, Refuse}
@@ -131,22 +132,27 @@ module _ (st : Stores) (site : List ℕ) (q : Query) {downward upward : List Boo
           left = l .1 ∙ ap (λ (o : List ℕ). over o room) entries;
         }
 
--- the verdict, and by it the refusal or the list
-module _ (st : Stores) (site : List ℕ) (q : Query) (room : List ℕ) {judged : Verdict}
-    (j : judged ≡ firstOf (traceTests st site q (length room))) where
-  abbrev tests : List Test
-  tests = traceTests st site q (length room)
+-- the query's verdict, then the site's, and by them the refusal or the list
+pub asked-room : (q : Query) {room : ℕ} → firstOf (askingTests q room) ≡ Fine → 768 ≤ room
+asked-room q {room} e = ltb-false room 768 (passed-iff (askingTests q room) .0 e .1 .0)
 
-  pub trace-room : judged ≡ Fine → 768 ≤ length room
-  trace-room e = ltb-false (length room) 768 (passed-iff tests .0 (sym j ∙ e) .1 .0)
+module _ (st : Stores) (site : List ℕ) (q : Query) (room : List ℕ) where
+  did-trace : {answer : Traced} {room′ : List ℕ} (v : Verdict) → firstOf (traceTests st site q (length room)) ≡ v
+      → answer ≡ tracedBy st site q v → room′ ≡ over (listBy st site q v) room → DidTrace st site q room answer room′
+  did-trace v e a l = record { answered = a ∙ ap (tracedBy st site q) (sym e); left = l ∙ ap (λ (v : Verdict). over (listBy st site q v) room) (sym e) }
 
-  pub trace-refused : (r : Refusal) {n : ℕ} → judged ≡ Refuse r → n ≡ number r
-      → DidTrace st site q room (record { number = n; lines = 0; forwardings = 0 }) room
-  trace-refused r e n = let v : firstOf tests ≡ Refuse r = sym j ∙ e in record { answered = rw (v, n) refl; left = rw v refl }
+  pub asked-refused : {r : Refusal} {answer : Traced} → firstOf (askingTests q (length room)) ≡ Refuse r → answer ≡ refusedTrace r → DidTrace st site q room answer room
+  asked-refused {r} e a = did-trace (Refuse r) (first-refused (askingTests q (length room)) (siteTests st site) r e) a refl
 
-  pub trace-listed : {answer : Traced} {room′ : List ℕ} → judged ≡ Fine → DidList st site q room answer room′
-      → DidTrace st site q room answer room′
-  trace-listed e l = let v : firstOf tests ≡ Fine = sym j ∙ e in record { answered = rw v (l .answered); left = rw v (l .left) }
+  module _ (e : firstOf (askingTests q (length room)) ≡ Fine) {survey : Surveyed} (s : DidSurvey st site survey) where
+    surveyed : firstOf (traceTests st site q (length room)) ≡ survey .verdict
+    surveyed = first-passed (askingTests q (length room)) (siteTests st site) e ∙ sym (s .judged)
+
+    pub site-refused : {r : Refusal} {answer : Traced} → survey .verdict ≡ Refuse r → answer ≡ refusedTrace r → DidTrace st site q room answer room
+    site-refused {r} f a = did-trace (Refuse r) (surveyed ∙ f) a refl
+
+    pub trace-listed : {answer : Traced} {room′ : List ℕ} → survey .verdict ≡ Fine → DidList st site q room answer room′ → DidTrace st site q room answer room′
+    trace-listed f l = did-trace Fine (surveyed ∙ f) (l .answered) (l .left)
 
 -- two outcomes that the contract allows coincide
 pub traced-one : {st : Stores} {site : List ℕ} {q : Query} {room : List ℕ} {r₁ r₂ : Traced} {a₁ a₂ : List ℕ} → DidTrace st site q room r₁ a₁ → DidTrace st site q room r₂ a₂ → (r₁ ≡ r₂) × (a₁ ≡ a₂)

@@ -7,22 +7,26 @@ use native.Mathlib.Omega.{arith}
 use Rattle.passing.specs.Passing.{doesPass}
 use Rattle.frame.specs.declared.Verdict.{Verdict}
 use Rattle.passing.specs.declared.Passage.{Passage}
-use Rattle.frame.specs.Order.{firstOf}
+use Rattle.frame.proofs.Order.{first-passed, first-refused}
+use Rattle.frame.specs.Order.{firstOf, answerBy}
 use Rattle.frame.specs.declared.Refusal.{Refusal}
 use Rattle.site.specs.Letting.{passageAt}
 use Rattle.site.specs.Records.{recordsOf}
+use Rattle.site.specs.Starts.{DidSurvey}
 use Rattle.site.specs.Stores.{Stores}
-use Rattle.site.specs.WellFormed.{isAmong}
+use Rattle.site.specs.WellFormed.{isAmong, siteTests}
+use Rattle.site.specs.declared.Surveyed.{Surveyed}
 use Rattle.tracer.proofs.Paths.{on-zero, before-on, before-off}
 use Rattle.tracer.specs.Lines.{mainSide, mainSides, beforeCommon, Crossing, up, down, upOver, downOver, path}
 use Rattle.tracer.specs.Query.{hoppedIn}
 use Rattle.tracer.specs.declared.Query.{Query}
-use Rattle.tracer.specs.Tracing.{traceTests}
+use Rattle.tracer.specs.Tracing.{askingTests}
 use Rattle.tracer.specs.Why.{handedOn, walked, whyBy, whyOf, whyTests, answerWhy}
 use Rattle.tracer.specs.declared.Stop.{Stop}
 use Rattle.tracer.specs.declared.Walk.the-variants.{Going, Stopped}
 use Rattle.tracer.specs.declared.Walk.{Walk}
 use Rattle.frame.specs.declared.Verdict.the-variants.{Fine, Refuse}
+use Rattle.tracer.specs.declared.Explanation.{Explanation}
 use Rattle.tracer.specs.declared.Explanation.the-variants.{Reached, NotReached, Refused as Unexplained}
 
 -- a line that is not on the way to 00h is not 00h
@@ -69,27 +73,38 @@ module _ (st : Stores) (site : List ℕ) (q : Query) where
       rw (before-off to (mainSides from) (not-zero to from (sym e ∙ f)) (sym e ∙ f), ← m)
       (r ∙ rw t (sym (walked-append w (downOver (beforeCommon (mainSides main) (mainSides from))) (down to ∷ []))))
 
--- the whole explanation: refused as the trace is, or the walk over the path
-module _ (st : Stores) (site : List ℕ) (q : Query) (line : ℕ) {judged : Verdict} (j : judged ≡ firstOf (traceTests st site q 768)) where
-  pub why-refused : (r : Refusal) → judged ≡ Refuse r → Unexplained r ≡ answerWhy st site q line
+-- the walk over the path, up and then down
+module _ (st : Stores) (site : List ℕ) (q : Query) (line : ℕ) {joined walk : Walk}
+    (u : joined ≡ walked st site q (Going (q .count)) (upOver (beforeCommon (mainSides (q .start)) (mainSides line))))
+    (d : walk ≡ walked st site q joined (downOver (beforeCommon (mainSides line) (mainSides (q .start))))) where
+  explained : whyOf st site q line ≡ whyBy walk
+  unfolding whyOf path
+  explained =
+      let way = upOver (beforeCommon (mainSides (q .start)) (mainSides line)) in
+      let back = downOver (beforeCommon (mainSides line) (mainSides (q .start))) in
+      ap whyBy (walked-append st site q (Going (q .count)) way back ∙ ap (λ (w : Walk). walked st site q w back) (sym u) ∙ sym d)
+
+  pub explained-reached : (k : ℕ) → walk ≡ Going k → Reached ≡ whyOf st site q line
+  explained-reached k e = sym (explained ∙ ap whyBy e)
+
+  pub explained-stopped : (stop : Stop) → walk ≡ Stopped stop → NotReached stop ≡ whyOf st site q line
+  explained-stopped stop e = sym (explained ∙ ap whyBy e)
+
+-- the whole explanation: refused as the trace with room enough is, or the walk
+module _ (st : Stores) (site : List ℕ) (q : Query) (line : ℕ) where
+  answer-by : {answer : Explanation} (v : Verdict) → firstOf (whyTests st site q) ≡ v → answer ≡ answerBy Unexplained (whyOf st site q line) v → answer ≡ answerWhy st site q line
   unfolding answerWhy
-  why-refused r e = let v : firstOf (whyTests st site q) ≡ Refuse r = sym j ∙ e in rw v refl
+  answer-by v e a = a ∙ ap (answerBy Unexplained (whyOf st site q line)) (sym e)
 
-  module _ (f : judged ≡ Fine) {joined walk : Walk}
-      (u : joined ≡ walked st site q (Going (q .count)) (upOver (beforeCommon (mainSides (q .start)) (mainSides line))))
-      (d : walk ≡ walked st site q joined (downOver (beforeCommon (mainSides line) (mainSides (q .start))))) where
-    explained : answerWhy st site q line ≡ whyBy walk
-    unfolding answerWhy whyOf path
-    explained =
-        let way = upOver (beforeCommon (mainSides (q .start)) (mainSides line)) in
-        let back = downOver (beforeCommon (mainSides line) (mainSides (q .start))) in
-        let whole : walked st site q (Going (q .count)) (way ++ back) ≡ walk =
-        walked-append st site q (Going (q .count)) way back ∙ ap (λ (w : Walk). walked st site q w back) (sym u) ∙ sym d in
-        let v : firstOf (whyTests st site q) ≡ Fine = sym j ∙ f in
-        rw v (ap whyBy whole)
+  pub why-asked : {r : Refusal} → firstOf (askingTests q 768) ≡ Refuse r → Unexplained r ≡ answerWhy st site q line
+  why-asked {r} e = answer-by (Refuse r) (first-refused (askingTests q 768) (siteTests st site) r e) refl
 
-    pub why-reached : (k : ℕ) → walk ≡ Going k → Reached ≡ answerWhy st site q line
-    why-reached k e = sym (explained ∙ ap whyBy e)
+  module _ (e : firstOf (askingTests q 768) ≡ Fine) {survey : Surveyed} (s : DidSurvey st site survey) where
+    surveyed : firstOf (whyTests st site q) ≡ survey .verdict
+    surveyed = first-passed (askingTests q 768) (siteTests st site) e ∙ sym (s .judged)
 
-    pub why-not-reached : (stop : Stop) → walk ≡ Stopped stop → NotReached stop ≡ answerWhy st site q line
-    why-not-reached stop e = sym (explained ∙ ap whyBy e)
+    pub why-refused : {r : Refusal} → survey .verdict ≡ Refuse r → Unexplained r ≡ answerWhy st site q line
+    why-refused {r} f = answer-by (Refuse r) (surveyed ∙ f) refl
+
+    pub why-explained : {answer : Explanation} → survey .verdict ≡ Fine → answer ≡ whyOf st site q line → answer ≡ answerWhy st site q line
+    why-explained f a = answer-by Fine (surveyed ∙ f) a

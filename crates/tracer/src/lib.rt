@@ -8,12 +8,13 @@ ghost use mathlib.Core.Path.{_≡_};
 ghost use Prim.Native.Nat.{_≤_};
 ghost use lib.ListN.{length};
 ghost use Rattle.frame.specs.Order.{firstOf};
+ghost use Rattle.site.specs.Starts.{Noted};
 ghost use Rattle.site.specs.Stores.{stores};
 ghost use Rattle.tracer.specs.Lines.{mainSide};
 ghost use Rattle.tracer.specs.Query.{hoppedIn, onArrival};
-ghost use Rattle.tracer.specs.Tracing.{traceTests, DidTrace};
+ghost use Rattle.tracer.specs.Tracing.{askingTests, refusedTrace, DidTrace};
 ghost use Rattle.tracer.specs.Reaching.{DidList};
-ghost use Rattle.tracer.specs.Why.{answerWhy};
+ghost use Rattle.tracer.specs.Why.{whyOf, answerWhy};
 use frame::Refusal;
 use frame::Verdict;
 use passing::Passage;
@@ -86,26 +87,44 @@ fn on_arrival(query: Query, crossed: u8) -> u8
     }
 }
 
-// "Order: 14 (kind, count), 13 (room below 768), 18 (store sizes), 16 (length), then record by record"
-fn judge<'a>(query: Query, site: &[u8], project: &'a [u8], own: &'a [u8], room: usize) -> Verdict
-    ensures { λ r. ⌜ r ≡ firstOf (traceTests (stores (now (project .entry)) (now (own .entry))) (now (site .entry)) query room) ⌝ }
+// "Order: 14 (kind, count), 13 (room below 768)", before the site's
+fn judge(query: Query, room: usize) -> Verdict
+    ensures { λ r. ⌜ r ≡ firstOf (askingTests query room) ⌝ }
 {
     let asked = (query.kind <= 1) & (query.count <= 7);
     if asked {
         if room < 768 {
             return Verdict::Refuse(Refusal::SmallRoom);
         }
-        site::judge(site, project, own)
+        Verdict::Fine
     } else {
         Verdict::Refuse(Refusal::OutOfRange)
     }
 }
 
-fn list<'a>(query: Query, site: &[u8], project: &'a [u8], own: &'a [u8], room: &mut [u8]) -> Traced
-    requires { ⌜ 768 ≤ length (now room) ⌝ }
+fn refused(refusal: Refusal) -> Traced
+    ensures { λ r. ⌜ r ≡ refusedTrace refusal ⌝ }
+{
+    Traced {
+        number: refusal.number(),
+        lines: 0,
+        forwardings: 0,
+    }
+}
+
+// Of a well-formed site, with where each line's record starts.
+fn list<'a>(
+    query: Query,
+    site: &[u8],
+    starts: &[u16; 256],
+    project: &'a [u8],
+    own: &'a [u8],
+    room: &mut [u8],
+) -> Traced
+    requires { ⌜ (768 ≤ length (now room)) × Noted (now site) (now starts) ⌝ }
     ensures { λ r. ⌜ DidList (stores (now (project .entry)) (now (own .entry))) (now (site .entry)) query (now (room .entry)) r (now (room .exit)) ⌝ }
 {
-    let passing = site::letting(site, project, own, query.kind, query.destination);
+    let passing = site::letting(site, starts, project, own, query.kind, query.destination);
     let down = passing.down;
     let up = passing.up;
     let arrivals = reaching::spread(&down, &up, query.start, query.count);
@@ -129,14 +148,38 @@ pub fn trace<'a>(
 ) -> Traced
     ensures { λ r. ⌜ DidTrace (stores (now (project .entry)) (now (own .entry))) (now (site .entry)) query (now (room .entry)) r (now (room .exit)) ⌝ }
 {
-    let judged = judge(query, site, project, own, room.len());
-    match judged {
-        Verdict::Refuse(refusal) => Traced {
-            number: refusal.number(),
-            lines: 0,
-            forwardings: 0,
-        },
-        Verdict::Fine => list(query, site, project, own, room),
+    let judged = judge(query, room.len());
+    if let Verdict::Refuse(refusal) = judged {
+        return refused(refusal);
+    }
+    let survey = site::survey(site, project, own);
+    let verdict = survey.verdict;
+    match verdict {
+        Verdict::Refuse(refusal) => refused(refusal),
+        Verdict::Fine => {
+            let starts = survey.starts;
+            list(query, site, &starts, project, own, room)
+        }
+    }
+}
+
+fn explain<'a>(
+    query: Query,
+    site: &[u8],
+    starts: &[u16; 256],
+    project: &'a [u8],
+    own: &'a [u8],
+    line: u8,
+) -> Explanation
+    requires { ⌜ Noted (now site) (now starts) ⌝ }
+    ensures { λ r. ⌜ r ≡ whyOf (stores (now (project .entry)) (now (own .entry))) (now (site .entry)) query line ⌝ }
+{
+    let sent = Walk::Going(query.count);
+    let joined = walking::walk_up(query, site, starts, project, own, sent, query.start, line);
+    let walk = walking::walk_down(query, site, starts, project, own, joined, query.start, line);
+    match walk {
+        Walk::Going(_) => Explanation::Reached,
+        Walk::Stopped(stop) => Explanation::NotReached(stop),
     }
 }
 
@@ -145,15 +188,15 @@ pub fn trace<'a>(
 pub fn why<'a>(query: Query, site: &[u8], project: &'a [u8], own: &'a [u8], line: u8) -> Explanation
     ensures { λ r. ⌜ r ≡ answerWhy (stores (now (project .entry)) (now (own .entry))) (now (site .entry)) query line ⌝ }
 {
-    let judged = judge(query, site, project, own, 768);
+    let judged = judge(query, 768);
     if let Verdict::Refuse(refusal) = judged {
         return Explanation::Refused(refusal);
     }
-    let sent = Walk::Going(query.count);
-    let joined = walking::walk_up(query, site, project, own, sent, query.start, line);
-    let walk = walking::walk_down(query, site, project, own, joined, query.start, line);
-    match walk {
-        Walk::Going(_) => Explanation::Reached,
-        Walk::Stopped(stop) => Explanation::NotReached(stop),
+    let survey = site::survey(site, project, own);
+    let verdict = survey.verdict;
+    if let Verdict::Refuse(refusal) = verdict {
+        return Explanation::Refused(refusal);
     }
+    let starts = survey.starts;
+    explain(query, site, &starts, project, own, line)
 }

@@ -17,15 +17,15 @@ use Rattle.tracer.proofs.walking.hand_on.Reads as hand-on-reads
 use Rattle.tracer.proofs.walking.+walk_down.{statement}
 use Rattle.tracer.proofs.walking.+walk_down.Tie.{close}
 
-abbrev μ-walk-down : Measures 2 walk-down-kinds.ps ℕ
-μ-walk-down κs a = depth (a .1 .1 .1 .1 .1 .1 .0)
+abbrev μ-walk-down : Measures 3 walk-down-kinds.ps ℕ
+μ-walk-down κs a = depth (a .1 .1 .1 .1 .1 .1 .1 .0)
 
-abbrev walk-down-at : ℕ → In 2 walk-down-kinds.ps
-walk-down-at t = and 2 walk-down-kinds.ps (is 2 walk-down-kinds.ps μ-walk-down t) walk-down.Pre
+abbrev walk-down-at : ℕ → In 3 walk-down-kinds.ps
+walk-down-at t = and 3 walk-down-kinds.ps (is 3 walk-down-kinds.ps μ-walk-down t) walk-down.Pre
 
-abbrev walk-down-below : ℕ → In 2 walk-down-kinds.ps
+abbrev walk-down-below : ℕ → In 3 walk-down-kinds.ps
 walk-down-below t =
-    and 2 walk-down-kinds.ps (falls 2 walk-down-kinds.ps _<_ μ-walk-down t) walk-down.Pre
+    and 3 walk-down-kinds.ps (falls 3 walk-down-kinds.ps _<_ μ-walk-down t) walk-down.Pre
 
 walk-down-returns : (t : ℕ) → walk-down-lts.Need-returns (
   is-above-reads.Asked,
@@ -51,7 +51,8 @@ walk-down-walk-down-requires : (t : ℕ) → walk-down-lts.Need-walk-down-requir
   hand-on-reads.Learnt,
 ) (walk-down-at t) walk-down.Post
 walk-down-walk-down-requires t c κs =
-    (omega (arith, less-deep (not-zero _ _ (sym (c .before .before .is-above .ensures) ∙ c .before .if1 .left)) (c .main-side .ensures), c .before .before .before .before .before .before .pre .0), tt)
+    let asked = c .before .before .before .before .before .before .pre in
+    (omega (arith, less-deep (not-zero _ _ (sym (c .before .before .is-above .ensures) ∙ c .before .if1 .left)) (c .main-side .ensures), asked .0), asked .1)
 
 walk-down-returns-2 : (t : ℕ) → walk-down-lts.Need-returns-2 (
   is-above-reads.Asked,

@@ -17,14 +17,14 @@ use Rattle.tracer.proofs.walking.hand_on.Reads as hand-on-reads
 use Rattle.tracer.proofs.walking.+walk_up.{statement}
 use Rattle.tracer.proofs.walking.+walk_up.Tie.{close}
 
-abbrev μ-walk-up : Measures 2 walk-up-kinds.ps ℕ
-μ-walk-up κs a = depth (a .1 .1 .1 .1 .1 .0)
+abbrev μ-walk-up : Measures 3 walk-up-kinds.ps ℕ
+μ-walk-up κs a = depth (a .1 .1 .1 .1 .1 .1 .0)
 
-abbrev walk-up-at : ℕ → In 2 walk-up-kinds.ps
-walk-up-at t = and 2 walk-up-kinds.ps (is 2 walk-up-kinds.ps μ-walk-up t) walk-up.Pre
+abbrev walk-up-at : ℕ → In 3 walk-up-kinds.ps
+walk-up-at t = and 3 walk-up-kinds.ps (is 3 walk-up-kinds.ps μ-walk-up t) walk-up.Pre
 
-abbrev walk-up-below : ℕ → In 2 walk-up-kinds.ps
-walk-up-below t = and 2 walk-up-kinds.ps (falls 2 walk-up-kinds.ps _<_ μ-walk-up t) walk-up.Pre
+abbrev walk-up-below : ℕ → In 3 walk-up-kinds.ps
+walk-up-below t = and 3 walk-up-kinds.ps (falls 3 walk-up-kinds.ps _<_ μ-walk-up t) walk-up.Pre
 
 walk-up-returns : (t : ℕ) → walk-up-lts.Need-returns (
   is-above-reads.Asked,
@@ -50,7 +50,8 @@ walk-up-walk-up-requires : (t : ℕ) → walk-up-lts.Need-walk-up-requires (
   walk-up.Post,
 ) (walk-up-at t) walk-up.Post
 walk-up-walk-up-requires t c κs =
-    (omega (arith, less-deep (not-zero _ _ (sym (c .before .before .before .is-above .ensures) ∙ c .before .before .if1 .left)) (c .main-side .ensures), c .before .before .before .before .before .before .before .pre .0), tt)
+    let asked = c .before .before .before .before .before .before .before .pre in
+    (omega (arith, less-deep (not-zero _ _ (sym (c .before .before .before .is-above .ensures) ∙ c .before .before .if1 .left)) (c .main-side .ensures), asked .0), asked .1)
 
 walk-up-returns-2 : (t : ℕ) → walk-up-lts.Need-returns-2 (
   is-above-reads.Asked,
