@@ -13,10 +13,10 @@ use Rattle.frame.proofs.Order.{passed-iff}
 use Rattle.frame.specs.Order.{firstOf, NoneOf}
 use Rattle.frame.specs.declared.Verdict.the-variants.{Fine}
 use Rattle.journey.specs.Journey.{AtWork, isIp, settingBy}
-use Rattle.octets.proofs.Octets.{octets-take, octets-drop}
 use Rattle.octets.specs.Octets.{Octets}
 use Rattle.passing.specs.Settings.{areCodes, asksTable, tableFits}
-use Rattle.site.specs.Records.{recordsBy, recordsOf, lineOf, codesOf, tableNumber, couplerIn, couplerOf, isFitted}
+use Rattle.site.proofs.RecordLaws.{coupler-octets}
+use Rattle.site.specs.Records.{recordsOf, lineOf, codesOf, tableNumber, couplerIn, couplerOf, isFitted}
 use Rattle.site.specs.Stores.{Stores, tableOf}
 use Rattle.site.specs.WellFormed.{hasTable, recordsTests, siteTests}
 use Rattle.tracer.proofs.Paths.{by-cases, never}
@@ -54,18 +54,8 @@ fitted-line st line r x z = go (eqb (lineOf r) 0) (eq-eqb (lineOf r) 0 (x .place
     go false q c = never (sym q)
 
 -- where the site's octets are octets, so are its record's, and its line is one of the 256
-
-octets-by : (k : ℕ) (site : List ℕ) (line : ℕ) (found : List ℕ) → Octets site → Octets found → Octets (couplerIn line found (recordsBy k site))
-octets-by zero site line found o f = f
-octets-by (suc k) site line found o f = octets-by k (drop 12 site) line (cond (eqb (lineOf (take 12 site)) line) (take 12 site) found) (octets-drop 12 site o) (go (eqb (lineOf (take 12 site)) line))
-  where
-    go : (b : Bool) → Octets (cond b (take 12 site) found)
-    go true = octets-take 12 site o
-    go false = f
-
 pub fitted-below : (st : Stores) (site : List ℕ) (line : ℕ) → Octets site → IsSet st line (couplerOf line (recordsOf site)) → line < 256
-unfolding couplerOf recordsOf
-fitted-below st site line o x = subst (λ (n : ℕ). n < 256) (x .place) (octets-by (length site / 12) site line [] o (λ i. omega arith) 2)
+fitted-below st site line o x = subst (λ (n : ℕ). n < 256) (x .place) (coupler-octets site line o 2)
 
 no-table : (st : Stores) → length (tableOf 0xff st) ≡ 0
 unfolding tableOf

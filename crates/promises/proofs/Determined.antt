@@ -4,6 +4,7 @@ use Rattle.octets.proofs.Part.{part-one}
 use Rattle.frame.proofs.Writing.{wrote-one}
 use Rattle.coupler.proofs.StepLaws.{handed-one, did-one}
 use Rattle.site.proofs.LettingLaws.{both-ways-one}
+use Rattle.site.proofs.Surveying.{survey-one}
 use Rattle.tracer.proofs.ListedBy.{traced-one}
 use Rattle.report.proofs.ReportLaws.{reported-one}
 use Rattle.klumdray.proofs.Surface.{wrote-number-one, traced-through-one}
@@ -105,8 +106,8 @@ use Rattle.passing.proofs.why_not.Kinds as passing-why-not-kinds
 use Rattle.passing.proofs.why_not.Reads as passing-why-not-reads
 use Rattle.site.proofs.stores.table_of.Kinds as site-table-of-kinds
 use Rattle.site.proofs.stores.table_of.Reads as site-table-of-reads
-use Rattle.site.proofs.judge.Kinds as site-judge-kinds
-use Rattle.site.proofs.judge.Reads as site-judge-reads
+use Rattle.site.proofs.survey.Kinds as site-survey-kinds
+use Rattle.site.proofs.survey.Reads as site-survey-reads
 use Rattle.site.proofs.letting.Kinds as site-letting-kinds
 use Rattle.site.proofs.letting.Reads as site-letting-reads
 use Rattle.site.proofs.why_not.Kinds as site-why-not-kinds
@@ -262,8 +263,8 @@ coupler-step-stated = record { determines = λ κs args r₁ r₂ w₁ w₂ x y.
 pub site-table-of-stated : StatedBy site-table-of-kinds.ps site-table-of-kinds.r (λ κs. SamePart) site-table-of-reads.Pre site-table-of-reads.Post (λ κs a. site-table-of-reads.ensures κs a tt)
 site-table-of-stated = record { determines = λ κs args r₁ r₂ w₁ w₂ x y. (part-one (x .table) (y .table), refl); free = λ κs args. tt; whole = λ κs args r e w. refl }
 
-pub site-judge-stated : Stated site-judge-kinds.ps site-judge-kinds.r site-judge-reads.Pre site-judge-reads.Post (λ κs a. site-judge-reads.ensures κs a tt)
-site-judge-stated = record { determines = λ κs args r₁ r₂ w₁ w₂ x y. (x ∙ sym y, refl); free = λ κs args. tt; whole = λ κs args r e w. refl }
+pub site-survey-stated : Stated site-survey-kinds.ps site-survey-kinds.r site-survey-reads.Pre site-survey-reads.Post (λ κs a. site-survey-reads.ensures κs a tt)
+site-survey-stated = record { determines = λ κs args r₁ r₂ w₁ w₂ x y. (survey-one x y, refl); free = λ κs args. tt; whole = λ κs args r e w. refl }
 
 pub site-letting-stated : Stated site-letting-kinds.ps site-letting-kinds.r site-letting-reads.Pre site-letting-reads.Post (λ κs a. site-letting-reads.ensures κs a tt)
 site-letting-stated = record { determines = λ κs args r₁ r₂ w₁ w₂ x y. (both-ways-one x y, refl); free = λ κs args. tt; whole = λ κs args r e w. refl }
