@@ -11,11 +11,10 @@ use Rattle.frame.specs.declared.Refusal.{Refusal}
 use Rattle.frame.specs.Valid.{inRange}
 use Rattle.tp1.specs.declared.Tp1Answer.{Tp1Answer}
 use Rattle.tp1.specs.declared.Tp1Answer.the-variants.{Frame, Refused}
-use Rattle.tp1.specs.Reading.{readTp1}
 use Rattle.cemi.specs.declared.CemiAnswer.{CemiAnswer}
 use Rattle.cemi.specs.declared.CemiAnswer.the-variants.{Frame as Message-is, Refused as Message-not}
 use Rattle.routing.specs.Reading.{readRouting, routedPayload}
-use Rattle.coupler.specs.Step.{Heard, frame, nothing, heardTp1, heardIp, readBy, indication}
+use Rattle.coupler.specs.Step.{frame, nothing, heardTp1, heardIp, readBy, indication}
 use Rattle.coupler.specs.Hearing.{meaningOnly, answerOn, payloadOn}
 use Rattle.coupler.proofs.StepLaws.{tp1-ranged, ip-ranged}
 

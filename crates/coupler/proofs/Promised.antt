@@ -20,7 +20,6 @@ use Rattle.coupler.specs.declared.Remembered.{Remembered}
 use Rattle.coupler.specs.declared.Setting.{Setting}
 use Rattle.frame.specs.Valid.{Valid}
 use Rattle.frame.specs.declared.Meaning.{Meaning}
-use Rattle.frame.specs.declared.Refusal.{Refusal}
 use Rattle.octets.proofs.Below.{and-true}
 use Rattle.octets.proofs.Room.{laid-front}
 use Rattle.routing.proofs.LayoutLaws.{length-routing}

@@ -1,12 +1,11 @@
 -- In a well-formed site every coupler that is fitted has a line that is not 00h, codes that are allowed and a table that fits them, so
 -- that its step refuses none of its settings.
-use Prim.Native.Nat.{ℕ, zero, suc, _/_, _≤_, _<_}
+use Prim.Native.Nat.{ℕ, _≤_, _<_}
 use mathlib.Core.Bool.{Bool, true, false, not, cond, _||_}
 use mathlib.Core.List.{List, [], _∷_}
 use mathlib.Core.Path.{_≡_, refl, sym, ap, _∙_, subst}
-use native.Mathlib.Omega.{arith}
 use lib.Dec.{ltb, eqb}
-use lib.ListN.{length, take, drop}
+use lib.ListN.{length}
 use borrow.Author.Tests.{eqb-true, not-false, lt-ltb, le-ltb, eq-eqb}
 use Rattle.coupler.specs.Step.{settingTests}
 use Rattle.frame.proofs.Order.{passed-iff}

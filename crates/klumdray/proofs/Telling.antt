@@ -1,5 +1,5 @@
 -- What every answer of the surface says of refusals: its number alone, which is in the table, or no refusal and bits 0 to 7 at 0.
-use Prim.Native.Nat.{ℕ, _^_, _≤_, _<_}
+use Prim.Native.Nat.{ℕ, _^_, _<_}
 use mathlib.Core.List.{List}
 use mathlib.Core.Path.{_≡_, sym, ap, _∙_, subst}
 use native.Mathlib.Omega.{arith}

@@ -2,7 +2,7 @@
 use Prim.Native.Nat.{ℕ, _-_, _*_, _/_, _%_, _^_}
 use mathlib.Core.List.{List, [], _∷_}
 use mathlib.Core.Bool.{Bool, true, false, cond, not, _&&_, _||_}
-use lib.Dec.{ltb, eqb}
+use lib.Dec.{eqb}
 use Rattle.octets.specs.Octets.{octetAt}
 use Rattle.passing.specs.declared.Passage.{Passage}
 use Rattle.passing.specs.declared.Passage.the-variants.{Passes, NotFitted, OwnAddress, Closed, NotInTable, NotBelow, NotAbove, UsedUp}

@@ -1,5 +1,5 @@
 -- Every public function: its contract determines its outcome, asks nothing of the caller, and leaves no clause out.
-use mathlib.Core.Path.{_≡_, refl, sym, _∙_}
+use mathlib.Core.Path.{refl, sym, _∙_}
 use Rattle.octets.proofs.Part.{part-one}
 use Rattle.frame.proofs.Writing.{wrote-one}
 use Rattle.coupler.proofs.StepLaws.{handed-one, did-one}

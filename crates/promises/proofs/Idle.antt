@@ -10,7 +10,7 @@ use borrow.Author.Tests.{le-ltb}
 use Rattle.coupler.specs.Memory.{kept, recalled, noMemory, sideOf}
 use Rattle.coupler.specs.Series.{Input, Done, Follows}
 use Rattle.coupler.specs.Setting.{settingOf}
-use Rattle.coupler.specs.Step.{Coupler, couplerBy, Heard, frame, nothing, heard, outcomeOf, sent, memoryAfter, Did}
+use Rattle.coupler.specs.Step.{Coupler, couplerBy, Heard, frame, nothing, heard, sent, memoryAfter, Did}
 use Rattle.coupler.specs.declared.Memory.{Memory}
 use Rattle.coupler.specs.declared.Outcome.{Outcome}
 use Rattle.frame.proofs.Writing.{put-iff, wrote-over}

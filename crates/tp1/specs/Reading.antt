@@ -1,5 +1,5 @@
 -- Document 01: "Order, TP1: no octet (1), control (2), fewer than 6 (standard) or 7 (extended) octets (1), 3, 4, 1, 5, 6."
-use Prim.Native.Nat.{ℕ, _+_, _-_, _/_, _%_}
+use Prim.Native.Nat.{ℕ, _+_, _-_, _%_}
 use mathlib.Core.List.{List, [], _∷_}
 use mathlib.Core.Bool.{Bool, cond, not, _&&_}
 use lib.ListN.{length, take, drop}

@@ -17,7 +17,7 @@ use Rattle.site.specs.WellFormed.{siteTests}
 use Rattle.tracer.specs.declared.Query.{Query}
 use Rattle.tracer.specs.Query.{isQuery}
 use Rattle.tracer.specs.Tracing.{traceTests}
-use Rattle.frame.proofs.Order.{passed-iff, refused-iff as order-iff, givesNot, once-iff}
+use Rattle.frame.proofs.Order.{passed-iff, refused-iff as order-iff, once-iff}
 
 module _ (st : Stores) (site : List ℕ) (q : Query) (room : ℕ) where
   abbrev tests : List Test

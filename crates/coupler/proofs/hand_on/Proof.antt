@@ -1,10 +1,9 @@
 -- The settings' refusals, then the reader's: each arm is what its callee ensures.
-use mathlib.Core.Path.{_≡_, sym, ap, _∙_}
+use mathlib.Core.Path.{sym, ap, _∙_}
 use lib.ListN.{length}
 use borrow.Author.Needs.{needs}
 use Rattle.coupler.proofs.StepLaws.{handed-on, handed-nothing, fine-room}
-use Rattle.coupler.specs.Step.{couplerBy, settingTests, fromIp, readBy, after, heard}
-use Rattle.frame.specs.Order.{firstOf}
+use Rattle.coupler.specs.Step.{couplerBy, fromIp, readBy, after, heard}
 use Rattle.frame.specs.declared.Verdict.{Verdict}
 use Rattle.coupler.proofs.hand_on.Statement.{statement}
 use Rattle.coupler.proofs.hand_on.Tie as tie
