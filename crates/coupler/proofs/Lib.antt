@@ -1,3 +1,4 @@
+pub mod Apart
 pub mod StepLaws
 mod HearingLaws
 pub mod Refusals

@@ -20,8 +20,8 @@ use Rattle.coupler.specs.declared.Remembered.{Remembered}
 use Rattle.coupler.specs.declared.Setting.{Setting}
 use Rattle.frame.specs.Valid.{Valid}
 use Rattle.frame.specs.declared.Meaning.{Meaning}
-use Rattle.octets.proofs.Below.{and-true}
 use Rattle.octets.proofs.Room.{laid-front}
+use Rattle.octets.proofs.Truth.{and-true}
 use Rattle.routing.proofs.LayoutLaws.{length-routing}
 use Rattle.routing.proofs.RoundTrip.{routing-read}
 use Rattle.routing.specs.Layout.{routingOctets}

@@ -5,11 +5,11 @@ use mathlib.Core.Bool.{Bool, true, false, not, _&&_, _||_}
 use mathlib.Core.List.{List, [], _∷_, _++_}
 use mathlib.Core.Logic.{_↔_}
 use mathlib.Core.Path.{_≡_, refl, sym, ap, _∙_}
-use native.Mathlib.Omega.{arith}
 use lib.Dec.{ltb, eqb}
 use lib.ListN.{length, take, drop}
 use borrow.Author.Tests.{eqb-false}
 use Rattle.cemi.specs.declared.CemiAnswer.{CemiAnswer}
+use Rattle.coupler.proofs.Apart.{frame-nothing, nothing-one}
 use Rattle.passing.specs.Settings.{areCodes, tableFits}
 use Rattle.coupler.specs.Step.{Coupler, settingTests, fromIp, Heard, heardTp1, heardIp, readBy, after, heard, outcomeBy, frame, nothing}
 use Rattle.frame.proofs.Numbers.{refused-number, number-apart}
@@ -20,38 +20,25 @@ use Rattle.frame.specs.Refusals.{number}
 use Rattle.frame.specs.declared.Meaning.{Meaning}
 use Rattle.frame.specs.declared.Refusal.the-variants.{SmallRoom, OutOfRange, WrongSetting, NoTable}
 use Rattle.frame.specs.declared.Refusal.{Refusal}
-use Rattle.routing.specs.Reading.{routingTests, readRouting, routedPayload}
-use Rattle.tp1.specs.Reading.{payloadIn, tp1Tests, readTp1}
+use Rattle.routing.specs.Reading.{routingTests, readRouting}
+use Rattle.tp1.specs.Reading.{tp1Tests, readTp1}
 use Rattle.tp1.specs.declared.Tp1Answer.{Tp1Answer}
-use Rattle.frame.proofs.Order.{passed-iff, refused-iff as order-iff, givesNot, once-iff, first-refused, answer-iff, refusal-once}
+use Rattle.frame.proofs.Order.{passed-iff, refused-iff as order-iff, givesNot, never-given, answer-iff, refusal-once}
 use Rattle.cemi.specs.declared.CemiAnswer.the-variants.{Frame as Message-is, Refused as Message-not}
 use Rattle.routing.proofs.Refusals.{refused-iff as routing-refused-iff}
 use Rattle.tp1.proofs.Refusals.{refused-iff as tp1-refused-iff}
 use Rattle.tp1.specs.declared.Tp1Answer.the-variants.{Frame, Refused as Unread}
 
-refusal-apart : (q r : Refusal) → nothing q ≡ nothing r → q ≡ r
-refusal-apart q r e = cc
-
-frame-refused : (m : Meaning) (p : List ℕ) (r : Refusal) → nothing r ≡ frame m p → ⊥
-frame-refused m p r e = let z : _≡_ {A = ℕ} 0 1 = cc in absurd (omega arith)
-
--- what no test gives is never given
-never : (ts : List Test) (r : Refusal) → givesNot ts r ≡ true → firstOf ts ≡ Refuse r → ⊥
-never ts r g e =
-    let h : false ≡ true = once-iff ts [] false r g refl .0 (first-refused ts (false gives r ∷ []) r e) .1 in
-    let z : _≡_ {A = ℕ} 0 1 = cc in
-    absurd (omega arith)
-
 never-read : (b : Bool) (s : List ℕ) (r : Refusal) → givesNot (tp1Tests s) r ≡ true → givesNot (routingTests s) r ≡ true → nothing r ≡ readBy b s → ⊥
 never-read b s r g h e = by b e
   where
     by-tp1 : (a : Tp1Answer) → readTp1 s ≡ a → nothing r ≡ heardTp1 a s → ⊥
-    by-tp1 (Frame m) q z = frame-refused m (payloadIn (Frame m) s) r z
-    by-tp1 (Unread x) q z = never (tp1Tests s) r g (order-iff (tp1Tests s) r .1 (tp1-refused-iff s r .0 (q ∙ ap Unread (refusal-apart x r (sym z)))))
+    by-tp1 (Frame m) q z = frame-nothing z
+    by-tp1 (Unread x) q z = never-given (tp1Tests s) r g (order-iff (tp1Tests s) r .1 (tp1-refused-iff s r .0 (q ∙ ap Unread (nothing-one (sym z)))))
 
     by-ip : (a : CemiAnswer) → readRouting s ≡ a → nothing r ≡ heardIp a s → ⊥
-    by-ip (Message-is x) q z = frame-refused (x .meaning) (routedPayload (Message-is x) s) r z
-    by-ip (Message-not x) q z = never (routingTests s) r h (order-iff (routingTests s) r .1 (routing-refused-iff s r .0 (q ∙ ap Message-not (refusal-apart x r (sym z)))))
+    by-ip (Message-is x) q z = frame-nothing z
+    by-ip (Message-not x) q z = never-given (routingTests s) r h (order-iff (routingTests s) r .1 (routing-refused-iff s r .0 (q ∙ ap Message-not (nothing-one (sym z)))))
 
     by : (b : Bool) → nothing r ≡ readBy b s → ⊥
     by true z = by-ip (readRouting s) refl z
@@ -67,7 +54,7 @@ behind-iff ts h r g = (go (firstOf ts) refl, λ x. ap (answerBy nothing h) (pass
   where
     go : (v : Verdict) → firstOf ts ≡ v → answerBy nothing h v ≡ nothing r → NoneOf ts × (h ≡ nothing r)
     go Fine q e = (passed-iff ts .0 q, e)
-    go (Refuse x) q e = absurd (never ts r g (q ∙ ap Refuse (refusal-apart x r e)))
+    go (Refuse x) q e = never-given ts r g (q ∙ ap Refuse (nothing-one e))
 
 module _ (k : Coupler) (s : List ℕ) (room : ℕ) where
   answered : heard k s room ≡ answerBy nothing (readBy (fromIp k) s) (firstOf (settingTests k room))
@@ -76,7 +63,7 @@ module _ (k : Coupler) (s : List ℕ) (room : ℕ) where
 
   -- a frame is accepted exactly if no test of the settings is true and the reader accepts it
   pub accepted-iff : (m : Meaning) (p : List ℕ) → heard k s room ≡ frame m p ↔ (NoneOf (settingTests k room) × (readBy (fromIp k) s ≡ frame m p))
-  accepted-iff m p = rw answered (answer-iff nothing refusal-apart (settingTests k room) (readBy (fromIp k) s) (frame m p) (frame-refused m p))
+  accepted-iff m p = rw answered (answer-iff nothing (λ q r. nothing-one) (settingTests k room) (readBy (fromIp k) s) (frame m p) (λ r. frame-nothing))
 
   -- ", then the reader's": a refusal that is none of the settings' is the reader's
   pub reader-iff : (r : Refusal) → givesNot (settingTests k room) r ≡ true → heard k s room ≡ nothing r ↔ (NoneOf (settingTests k room) × (readBy (fromIp k) s ≡ nothing r))
@@ -84,7 +71,7 @@ module _ (k : Coupler) (s : List ℕ) (room : ℕ) where
 
   once-at : (ts us : List Test) (b : Bool) (r : Refusal) → settingTests k room ≡ ts ++ (b gives r ∷ us) → givesNot ts r ≡ true → givesNot us r ≡ true
       → givesNot (tp1Tests s) r ≡ true → givesNot (routingTests s) r ≡ true → heard k s room ≡ nothing r ↔ (NoneOf ts × (b ≡ true))
-  once-at ts us b r e g h i j = rw (answered ∙ ap (λ (l : List Test). answerBy nothing (readBy (fromIp k) s) (firstOf l)) e) (refusal-once nothing refusal-apart ts us b (readBy (fromIp k) s) r (never-read (fromIp k) s r i j) g h)
+  once-at ts us b r e g h i j = rw (answered ∙ ap (λ (l : List Test). answerBy nothing (readBy (fromIp k) s) (firstOf l)) e) (refusal-once nothing (λ q r. nothing-one) ts us b (readBy (fromIp k) s) r (never-read (fromIp k) s r i j) g h)
 
   -- "Order: 15, 18 .., 14 .., 13 (room below 272)": each exactly if its test is true and none before it is
   pub refused-15 : heard k s room ≡ nothing WrongSetting ↔ (eqb (k .setting .line) 0 || not (areCodes (k .codes)) ≡ true)
@@ -101,9 +88,9 @@ module _ (k : Coupler) (s : List ℕ) (room : ℕ) where
 
 -- the outcome's number is a refusal's exactly if that refusal was heard, and 0 exactly if none was
 pub number-iff : (k : Coupler) (remembered s : List ℕ) (h : Heard) (r : Refusal) → outcomeBy k remembered s h .number ≡ number r ↔ (h ≡ nothing r)
-number-iff k remembered s (frame m p) r = ((λ e. absurd (eqb-false (number r) 0 (refused-number r) (sym e))), λ e. absurd (frame-refused m p r (sym e)))
-number-iff k remembered s (nothing q) r = ((λ e. ap nothing (number-apart q r e)), λ e. ap number (refusal-apart q r e))
+number-iff k remembered s (frame m p) r = ((λ e. absurd (eqb-false (number r) 0 (refused-number r) (sym e))), λ e. absurd (frame-nothing (sym e)))
+number-iff k remembered s (nothing q) r = ((λ e. ap nothing (number-apart q r e)), λ e. ap number (nothing-one e))
 
 pub zero-iff : (k : Coupler) (remembered s : List ℕ) (h : Heard) → outcomeBy k remembered s h .number ≡ 0 ↔ ((r : Refusal) → h ≡ nothing r → ⊥)
-zero-iff k remembered s (frame m p) = ((λ e r z. frame-refused m p r (sym z)), λ f. refl)
+zero-iff k remembered s (frame m p) = ((λ e r z. frame-nothing (sym z)), λ f. refl)
 zero-iff k remembered s (nothing r) = ((λ e. absurd (eqb-false (number r) 0 (refused-number r) e)), λ f. absurd (f r refl))

@@ -11,6 +11,7 @@ use Rattle.cemi.specs.Writing.{messageInRange}
 use Rattle.cemi.specs.declared.CemiAnswer.{CemiAnswer}
 use Rattle.cemi.specs.declared.Codes.the-variants.{IndicationOnly}
 use Rattle.cemi.specs.declared.Message.{Message}
+use Rattle.coupler.proofs.Apart.{frame-nothing}
 use Rattle.coupler.specs.Memory.{kept, recalled, sideOf, rememberedOn}
 use Rattle.coupler.specs.Stages.{rememberedIf}
 use Rattle.coupler.specs.Setting.{hoppedBy}
@@ -141,11 +142,11 @@ heard-size k s n m p o e f = settled (firstOf (settingTests k n)) (rw f at e)
     answered (Frame x) q z =
         let w = tp1-read-laid s x o q in
         omega (arith, ap length (w .layout), octets-most x (payloadIn (Frame x) s) (w .valid .ranges))
-    answered (Unread r) q z = let y : _≡_ {A = ℕ} 0 1 = cc in absurd (omega arith)
+    answered (Unread r) q z = frame-nothing z
 
     settled : (v : Verdict) → after v (heardTp1 (readTp1 s) s) ≡ frame m p → length s ≤ 263
     settled Fine z = answered (readTp1 s) refl z
-    settled (Refuse r) z = let y : _≡_ {A = ℕ} 0 1 = cc in absurd (omega arith)
+    settled (Refuse r) z = frame-nothing z
 
 -- two outcomes that a contract allows coincide
 pub handed-one : {k : Coupler} {remembered s room : List ℕ} {o₁ o₂ : Outcome} {r₁ r₂ : List ℕ} → HandedOn k remembered s room o₁ r₁ → HandedOn k remembered s room o₂ r₂ → (o₁ ≡ o₂) × (r₁ ≡ r₂)
@@ -161,16 +162,16 @@ heard-valid k s n m p o e = settled (firstOf (settingTests k n)) (fromIp k) e
   where
     by-tp1 : (a : Tp1Answer) → readTp1 s ≡ a → heardTp1 a s ≡ frame m p → Valid m p
     by-tp1 (Frame x) q z = let em : x ≡ m = cc in let ep : payloadIn (Frame x) s ≡ p = cc in subst (λ (y : Meaning). Valid y p) em (subst (Valid x) ep (tp1-read-laid s x o q .valid))
-    by-tp1 (Unread r) q z = let y : _≡_ {A = ℕ} 0 1 = cc in absurd (omega arith)
+    by-tp1 (Unread r) q z = frame-nothing z
 
     by-ip : (a : CemiAnswer) → readRouting s ≡ a → heardIp a s ≡ frame m p → Valid m p
     by-ip (Message-is x) q z =
         let em : x .meaning ≡ m = cc in
         let ep : routedPayload (Message-is x) s ≡ p = cc in
         subst (λ (y : Meaning). Valid y p) em (subst (Valid (x .meaning)) ep (cemi-read-laid IndicationOnly (drop 6 s) x (octets-drop 6 s o) (read-datagram s x o q .1) .valid .valid))
-    by-ip (Message-not r) q z = let y : _≡_ {A = ℕ} 0 1 = cc in absurd (omega arith)
+    by-ip (Message-not r) q z = frame-nothing z
 
     settled : (v : Verdict) (b : Bool) → after v (readBy b s) ≡ frame m p → Valid m p
     settled Fine true z = by-ip (readRouting s) refl z
     settled Fine false z = by-tp1 (readTp1 s) refl z
-    settled (Refuse r) b z = let y : _≡_ {A = ℕ} 0 1 = cc in absurd (omega arith)
+    settled (Refuse r) b z = frame-nothing z

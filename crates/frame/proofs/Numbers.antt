@@ -10,7 +10,7 @@ use borrow.Author.Tests.{leb-true, eqb-false, ne-eqb}
 use Rattle.frame.specs.Refusals.{number, lastNumber}
 use Rattle.frame.specs.declared.Refusal.the-variants.{TooFew, NotData, OtherFormat, Escape, LeftOver, WrongCheck, OtherCode, InformationEscape, LongStandard, OtherHeader, OtherService, OtherLength, SmallRoom, OutOfRange, WrongSetting, WrongRecord, LineTwice, NoTable}
 use Rattle.frame.specs.declared.Refusal.{Refusal}
-use Rattle.octets.proofs.Below.{and-true}
+use Rattle.octets.proofs.Truth.{and-true}
 
 -- the refusals in the table's order, and the one that has a number
 abbrev rows : List Refusal

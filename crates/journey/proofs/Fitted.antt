@@ -12,13 +12,13 @@ use Rattle.frame.proofs.Order.{passed-iff}
 use Rattle.frame.specs.Order.{firstOf, NoneOf}
 use Rattle.frame.specs.declared.Verdict.the-variants.{Fine}
 use Rattle.journey.specs.Journey.{AtWork, isIp, settingBy}
+use Rattle.octets.proofs.Truth.{by-cases, never}
 use Rattle.octets.specs.Octets.{Octets}
 use Rattle.passing.specs.Settings.{areCodes, asksTable, tableFits}
 use Rattle.site.proofs.RecordLaws.{coupler-octets}
 use Rattle.site.specs.Records.{recordsOf, lineOf, codesOf, tableNumber, couplerIn, couplerOf, isFitted}
 use Rattle.site.specs.Stores.{Stores, tableOf}
 use Rattle.site.specs.WellFormed.{hasTable, recordsTests, siteTests}
-use Rattle.tracer.proofs.Paths.{by-cases, never}
 use Rattle.tracer.specs.Lines.{mainSide}
 
 -- the record of a line, as a well-formed site has it

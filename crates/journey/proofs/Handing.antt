@@ -24,7 +24,7 @@ use Rattle.frame.specs.Valid.{Valid}
 use Rattle.frame.specs.declared.Meaning.{Meaning}
 use Rattle.journey.proofs.Fitted.{IsSet, fitted-set, fitted-line, set-passes}
 use Rattle.journey.specs.Journey.{AtWork, ownCoupler, isIp, formOn, couplerAt, Hands}
-use Rattle.octets.proofs.Below.{and-true}
+use Rattle.octets.proofs.Truth.{by-cases, and-true, and-yes, and-false}
 use Rattle.octets.specs.Room.{over}
 use Rattle.routing.proofs.RoundTrip.{routing-read, routing-payload}
 use Rattle.routing.specs.Layout.{routingOctets}
@@ -36,8 +36,6 @@ use Rattle.tp1.proofs.RoundTrip.{laid-read, laid-payload}
 use Rattle.tp1.specs.Layout.{tp1Octets}
 use Rattle.tp1.specs.Reading.{meaningIn}
 use Rattle.tp1.specs.declared.Tp1Answer.{Tp1Answer}
-use Rattle.tracer.proofs.Paths.{by-cases}
-use Rattle.tracer.proofs.ReachingLaws.{and-yes, and-false}
 use Rattle.tracer.specs.Lines.{mainSide, Crossing, crossing, fromLine, toLine}
 
 -- a telegram in the form of a medium

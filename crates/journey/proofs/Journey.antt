@@ -21,7 +21,7 @@ use Rattle.journey.proofs.Fitted.{fitted-line, fitted-below}
 use Rattle.journey.proofs.Handing.{form-on-read, is-set, hands-line, hands-side, hands-passes, passes-hands}
 use Rattle.journey.proofs.SoMany.{Counted, so-many}
 use Rattle.journey.specs.Journey.{AtWork, ownCoupler, isIp, formOn, couplerAt, Hands, Arrives, Sends, SoMany, ArrivesWith, askedOf, withCount, put-there, handed-on}
-use Rattle.octets.proofs.Below.{and-true}
+use Rattle.octets.proofs.Truth.{by-cases, and-true}
 use Rattle.octets.specs.Octets.{Octets}
 use Rattle.site.specs.Letting.{recordPasses, lineLetsPass}
 use Rattle.site.specs.Records.{isFitted}
@@ -29,7 +29,7 @@ use Rattle.site.specs.WellFormed.{siteTests}
 use Rattle.tracer.proofs.CountLaws.{arrival-none, arrival-below, hopped-more}
 use Rattle.tracer.proofs.Crossings.{goes-on, last-of, distance-more, listed-more, forwarding-is}
 use Rattle.tracer.proofs.ListLaws.{start-listed}
-use Rattle.tracer.proofs.Paths.{by-cases, main-below, path-same, distance-same, distance-zero}
+use Rattle.tracer.proofs.Paths.{main-below, path-same, distance-same, distance-zero}
 use Rattle.tracer.proofs.Standing.{ListedWith}
 use Rattle.tracer.specs.Lines.{mainSide, Crossing, fromLine, toLine, cameOver, path, distance}
 use Rattle.tracer.specs.Query.{onArrival, hoppedIn}

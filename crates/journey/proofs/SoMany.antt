@@ -8,7 +8,7 @@ use native.Mathlib.Omega.{arith}
 use lib.Dec.{ltb, eqb}
 use borrow.Author.Tests.{ltb-true, ltb-false, eqb-true, eqb-false, lt-ltb, le-ltb}
 use Rattle.journey.specs.Journey.{SoMany}
-use Rattle.tracer.proofs.Paths.{by-cases}
+use Rattle.octets.proofs.Truth.{by-cases}
 use Rattle.tracer.specs.Lines.{Crossing, crossing, up, down}
 use Rattle.tracer.specs.Listing.{countBelow}
 

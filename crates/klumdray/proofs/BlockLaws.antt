@@ -18,10 +18,10 @@ use Rattle.frame.proofs.Numbers.{refused-number}
 use Rattle.frame.specs.declared.Meaning.{Meaning}
 use Rattle.klumdray.specs.Block.{rememberedIn, memoryIn, halfOf, blockOf, outcomeNumber, heardThrough, SteppedThrough}
 use Rattle.klumdray.specs.Stages.{startOf, keptIn, rememberedAt}
-use Rattle.octets.proofs.Below.{and-true}
 use Rattle.octets.proofs.Octets.{octets-take, octets-drop}
 use Rattle.octets.proofs.Room.{laid-front, laid-left, laid-right}
 use Rattle.octets.proofs.Split.{head-rest}
+use Rattle.octets.proofs.Truth.{and-true}
 use Rattle.octets.proofs.Word.{high-word, low-word}
 use Rattle.octets.specs.Octets.{octetAt, Octets}
 use Rattle.octets.specs.Room.{laid}

@@ -15,11 +15,11 @@ use Rattle.frame.specs.declared.Verdict.{Verdict}
 use Rattle.klumdray.proofs.TracerNumbers.{trace-told, trace-counted}
 use Rattle.klumdray.specs.Decoding.{listedLine, numberIn, linesIn, ListedAt, ListReads}
 use Rattle.klumdray.specs.Traces.{TracedThrough}
+use Rattle.octets.proofs.Truth.{by-cases}
 use Rattle.octets.specs.Octets.{octetAt}
 use Rattle.octets.specs.Room.{over}
 use Rattle.site.specs.Stores.{Stores}
 use Rattle.tracer.proofs.ListLaws.{three-each}
-use Rattle.tracer.proofs.Paths.{by-cases}
 use Rattle.tracer.specs.Lines.{Crossing, distance}
 use Rattle.tracer.specs.Query.{onArrival}
 use Rattle.tracer.specs.Listing.{crossingPasses, isListed, entry, eachBelow, countBelow, listed, linesListed}

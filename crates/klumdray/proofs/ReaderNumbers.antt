@@ -8,6 +8,7 @@ use native.Mathlib.Omega.{arith}
 use lib.Dec.{eqb}
 use lib.ListN.{length, drop, getD}
 use borrow.Author.Tests.{eqb-true}
+use Rattle.cemi.proofs.Apart.{frame-refused as message-refused, refused-one as message-not-one}
 use Rattle.cemi.proofs.LayoutLaws.{message-ranges}
 use Rattle.cemi.specs.Answers.{cemiNumbered}
 use Rattle.cemi.specs.Codes.{isRead}
@@ -32,6 +33,7 @@ use Rattle.octets.proofs.Octets.{octets-drop}
 use Rattle.octets.specs.Octets.{Octets, weigh}
 use Rattle.routing.proofs.RoundTrip.{read-datagram}
 use Rattle.routing.specs.Reading.{readRouting, routedPayload}
+use Rattle.tp1.proofs.Apart.{frame-refused, refused-one}
 use Rattle.tp1.specs.Answers.{tp1Numbered}
 use Rattle.tp1.specs.Reading.{readTp1, payloadIn}
 use Rattle.tp1.specs.declared.Tp1Answer.{Tp1Answer}
@@ -95,23 +97,17 @@ module _ (m : Meaning) (p : List ℕ) (v : Valid m p) where
   meaning-reads : Reads m (length p) (meaningNumber m (length p))
   meaning-reads = reads [] (meaningNumber m (length p)) tt meaning-packed
 
-tp1-refused : (m : Meaning) (r : Refusal) → _≡_ {A = Tp1Answer} (Frame m) (Refused r) → ⊥
-tp1-refused m r e = let z : _≡_ {A = ℕ} 0 1 = cc in absurd (omega arith)
-
-tp1-apart : (q r : Refusal) → _≡_ {A = Tp1Answer} (Refused q) (Refused r) → q ≡ r
-tp1-apart q r e = cc
-
 tp1-answer : (a : Tp1Answer) (p : List ℕ) → ((m : Meaning) → a ≡ Frame m → Valid m p) → ((r : Refusal) → a ≡ Refused r → p ≡ [])
     → TellsReading 56 tp1From (tp1Number a (length p)) (tp1Numbered a) (λ r. a ≡ Refused r) p
 tp1-answer (Frame m) p v none =
     let x = meaning-reads m p (v m refl) in
     record {
-      told = tells-accepted (x .number) (tp1-refused m) (meaning-fits m p (v m refl)) (rw (x .number, x .values));
+      told = tells-accepted (x .number) (λ r e. frame-refused (sym e)) (meaning-fits m p (v m refl)) (rw (x .number, x .values));
       size = x .payload;
       some = λ z. rw (x .payload) (ranges m p (v m refl) .some);
     }
 tp1-answer (Refused q) p v none = record {
-  told = tells-refused q refl refl (tp1-apart q) (omega arith) (rw (number-alone q, refused-number q));
+  told = tells-refused q refl refl (λ r. refused-one) (omega arith) (rw (number-alone q, refused-number q));
   size = rw (none q refl) (omega (arith, number-listed q .1));
   some = λ z. absurd (number-some q (sym (number-alone q) ∙ z));
 }
@@ -170,24 +166,18 @@ module _ (codes : Codes) (x : Message) (p : List ℕ) (v : ValidMessage codes x 
   unfolding fields rest readerFields
   mark-read = read-back fields (messageNumber x (length p)) fit message-packed 10 (omega arith)
 
-cemi-refused : (x : Message) (r : Refusal) → _≡_ {A = CemiAnswer} (Message-is x) (Message-not r) → ⊥
-cemi-refused x r e = let z : _≡_ {A = ℕ} 0 1 = cc in absurd (omega arith)
-
-cemi-apart : (q r : Refusal) → _≡_ {A = CemiAnswer} (Message-not q) (Message-not r) → q ≡ r
-cemi-apart q r e = cc
-
 cemi-answer : (codes : Codes) (a : CemiAnswer) (p : List ℕ) → ((x : Message) → a ≡ Message-is x → ValidMessage codes x p) → ((r : Refusal) → a ≡ Message-not r → p ≡ [])
     → TellsReading 59 cemiFrom (cemiNumber a (length p)) (cemiNumbered a) (λ r. a ≡ Message-not r) p
 cemi-answer codes (Message-is x) p v none =
     let ok = v x refl in
     let w = message-reads codes x p ok in
     record {
-      told = tells-accepted (w .number) (cemi-refused x) (message-fits codes x p ok) (rw (w .number, code-read codes x p ok, mark-read codes x p ok, w .values));
+      told = tells-accepted (w .number) (λ r e. message-refused (sym e)) (message-fits codes x p ok) (rw (w .number, code-read codes x p ok, mark-read codes x p ok, w .values));
       size = w .payload;
       some = λ z. rw (w .payload) (ranges (x .meaning) p (ok .valid) .some);
     }
 cemi-answer codes (Message-not q) p v none = record {
-  told = tells-refused q refl refl (cemi-apart q) (omega arith) (rw (number-alone q, refused-number q));
+  told = tells-refused q refl refl (λ r. message-not-one) (omega arith) (rw (number-alone q, refused-number q));
   size = rw (none q refl) (omega (arith, number-listed q .1));
   some = λ z. absurd (number-some q (sym (number-alone q) ∙ z));
 }

@@ -9,6 +9,7 @@ use lib.Dec.{ltb, leb, eqb}
 use lib.ListN.{length, take, drop, length-append, length-drop}
 use lib.Seq.{length-take-le, take-all, take-at, drop-at}
 use borrow.Author.Tests.{ltb-true, ltb-false, leb-true, leb-false, le-ltb, lt-ltb, eqb-true, eqb-false, not-false}
+use Rattle.coupler.proofs.Apart.{frame-nothing}
 use Rattle.coupler.proofs.Promised.{remembers-main, remembers-sub}
 use Rattle.coupler.proofs.Refusals.{accepted-iff}
 use Rattle.coupler.proofs.StepLaws.{heard-size}
@@ -25,8 +26,8 @@ use Rattle.klumdray.proofs.StepNumbers.{step-told}
 use Rattle.klumdray.specs.Block.{rememberedIn, memoryIn, halfOf, blockOf, heardThrough, SteppedThrough}
 use Rattle.klumdray.specs.Decoding.{numberIn, rememberedPart, rememberedSize, rememberedStart}
 use Rattle.klumdray.specs.Stages.{startOf, rememberedAt}
-use Rattle.octets.proofs.Below.{and-true}
 use Rattle.octets.proofs.Room.{laid-front}
+use Rattle.octets.proofs.Truth.{and-true}
 use Rattle.octets.proofs.Word.{word-back}
 use Rattle.octets.specs.Octets.{Octets}
 use Rattle.octets.specs.Room.{laid}
@@ -147,7 +148,7 @@ heard-least s m p o = go (readTp1 s) refl
         let w = read-laid s x o q in
         let l : List ℕ = payloadIn (Frame x) s in
         omega (arith, ap length (w .layout) ∙ length-octets x l, head-least (x .extended), ranges-of x (length l) (w .valid .ranges) .some)
-    go (Refused r) q z = let y : _≡_ {A = ℕ} 0 1 = cc in absurd (omega arith)
+    go (Refused r) q z = frame-nothing z
 
 module _ {right : Bool} {k : Coupler} {block s room : List ℕ} {answer : ℕ} {block′ room′ : List ℕ} (lent : right ≡ true → length block ≡ 530) (os : Octets s) (w : SteppedThrough right k block s room answer block′ room′) where
   accepted : numberIn answer ≡ 0 → Accepted right (heard k s (length room))
@@ -204,7 +205,7 @@ module _ {right : Bool} {k : Coupler} {block s room : List ℕ} {answer : ℕ} {
   step-leaves ob n = go right refl (heard k s (length room)) refl
     where
       go : (b : Bool) → right ≡ b → (h : Heard) → heard k s (length room) ≡ h → (block′ ≡ block) × (room′ ≡ room)
-      go true a (frame m p) e = absurd (n (step-told os w .accepted .1 (λ r z. let y : _≡_ {A = ℕ} 0 1 = cc in absurd (omega arith))))
+      go true a (frame m p) e = absurd (n (step-told os w .accepted .1 (λ r z. frame-nothing (sym (rw (a, e) at z)))))
       go true a (nothing r) e = (w .memory ∙ rw (a, e) (sym (unchanged-block block (lent a) ob)), w .left ∙ rw (a, e))
       go false a h e = (w .memory ∙ rw a, w .left ∙ rw a)
 

@@ -5,6 +5,7 @@ use mathlib.Core.List.{List, [], _∷_}
 use mathlib.Core.Path.{_≡_, refl, sym, ap, _∙_}
 use native.Mathlib.Omega.{arith}
 use lib.ListN.{length}
+use Rattle.coupler.proofs.Apart.{frame-nothing, nothing-one}
 use Rattle.coupler.proofs.StepLaws.{heard-valid}
 use Rattle.coupler.specs.Answers.{acknowledgementNumber}
 use Rattle.coupler.specs.Memory.{recalled, sideOf}
@@ -17,7 +18,6 @@ use Rattle.frame.proofs.Numbers.{number-listed}
 use Rattle.frame.proofs.Valid.{most-payload}
 use Rattle.frame.specs.Refusals.{number, lastNumber}
 use Rattle.frame.specs.declared.Meaning.{Meaning}
-use Rattle.frame.specs.declared.Refusal.{Refusal}
 use Rattle.frame.specs.declared.Refusal.the-variants.{OutOfRange}
 use Rattle.klumdray.proofs.Bits.{bit-fits, Field, _holding_, packed, Fit, read-back, below}
 use Rattle.klumdray.proofs.Telling.{tells-refused, tells-accepted}
@@ -89,12 +89,6 @@ at-most-270 k remembered s room o = go (heard k s room) refl
     go (frame m p) e = if-most (isForwarded k (repeats k remembered s) m) (formOf (toIp k) (k .setting) m p) (form-most (toIp k) (k .setting) m p (most-payload m (length p) (heard-valid k s room m p o e .ranges)))
     go (nothing r) e = omega arith
 
-heard-refused : (m : Meaning) (p : List ℕ) (r : Refusal) → frame m p ≡ nothing r → ⊥
-heard-refused m p r e = let z : _≡_ {A = ℕ} 0 1 = cc in absurd (omega arith)
-
-heard-apart : (q r : Refusal) → nothing q ≡ nothing r → q ≡ r
-heard-apart q r e = cc
-
 numbered-most : (k : Coupler) (remembered s : List ℕ) (h : Heard) → outcomeBy k remembered s h .number ≤ lastNumber
 numbered-most k remembered s (frame m p) = omega arith
 numbered-most k remembered s (nothing q) = number-listed q .1
@@ -104,10 +98,10 @@ outcome-answer : (k : Coupler) (remembered s : List ℕ) (h : Heard) → outcome
 unfolding outcomeNumber
 outcome-answer k remembered s (frame m p) h =
     let o : Outcome = outcomeBy k remembered s (frame m p) in
-    tells-accepted (outcome-number o (omega arith) h) (heard-refused m p) (outcome-fits o (omega arith) h) (outcome-decoded o (omega arith) h)
+    tells-accepted (outcome-number o (omega arith) h) (λ r e. frame-nothing (sym e)) (outcome-fits o (omega arith) h) (outcome-decoded o (omega arith) h)
 outcome-answer k remembered s (nothing q) h =
     let e : outcomeNumber (refusedOutcome k s q) ≡ number q = omega arith in
-    tells-refused q e refl (heard-apart q) (omega arith) (ap outcomeFrom (sym e) ∙ outcome-decoded (refusedOutcome k s q) (number-listed q .1) h)
+    tells-refused q e refl (λ r. nothing-one) (omega arith) (ap outcomeFrom (sym e) ∙ outcome-decoded (refusedOutcome k s q) (number-listed q .1) h)
 
 -- the same through the surface
 module _ {right : Bool} {k : Coupler} {block s room : List ℕ} {answer : ℕ} {block′ room′ : List ℕ} (os : Octets s) (w : SteppedThrough right k block s room answer block′ room′) where

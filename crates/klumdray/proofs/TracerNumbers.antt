@@ -9,6 +9,8 @@ use native.Mathlib.Omega.{arith}
 use lib.Dec.{leb, eqb}
 use lib.ListN.{length, getD}
 use borrow.Author.Tests.{leb-true, eqb-true, eqb-false, not-false}
+use Rattle.frame.proofs.Apart.{fine-refuse, refuse-one}
+use Rattle.octets.proofs.Truth.{by-cases, and-true}
 use Rattle.passing.specs.Answers.{passageNumber}
 use Rattle.passing.specs.Passing.{doesPass}
 use Rattle.passing.specs.declared.Passage.{Passage}
@@ -25,13 +27,11 @@ use Rattle.klumdray.proofs.Bits.{Field, _holding_, packed, Fit, read-ba
 use Rattle.klumdray.proofs.Telling.{number-alone, tells-refused, tells-accepted}
 use Rattle.klumdray.specs.Decoding.{numberIn, linesIn, forwardingsIn, tracedNumbered, tracedFrom, explanationFrom, Tells}
 use Rattle.klumdray.specs.Traces.{tracedNumber, explanationNumber, TracedThrough}
-use Rattle.octets.proofs.Below.{and-true}
 use Rattle.octets.specs.Room.{over}
 use Rattle.site.specs.Stores.{Stores}
 use Rattle.site.specs.WellFormed.{isAmong}
 use Rattle.tracer.proofs.Explained.{reached-iff, not-reached}
 use Rattle.tracer.proofs.ListLaws.{start-listed, trace-less-one}
-use Rattle.tracer.proofs.Paths.{by-cases}
 use Rattle.tracer.proofs.ReachingLaws.{count-most}
 use Rattle.tracer.specs.Answers.{explanationNumbered}
 use Rattle.tracer.specs.Lines.{Crossing, mainSide, depth, mainSides, mainSidesBy, beforeCommon, down, upOver, downOver, path, up}
@@ -97,22 +97,16 @@ module _ (t : Traced) (n : t .number ≤ lastNumber) (l : t .lines ≤ 256) (f :
       let field = read-back (tracedFields t) (tracedNumber t) traced-fit traced-packed in
       rw (field 0 (omega arith), field 1 (omega arith), field 2 (omega arith))
 
-verdict-refused : (r : Refusal) → Fine ≡ Refuse r → ⊥
-verdict-refused r e = let z : _≡_ {A = ℕ} 0 1 = cc in absurd (omega arith)
-
-verdict-apart : (q r : Refusal) → Refuse q ≡ Refuse r → q ≡ r
-verdict-apart q r e = cc
-
 module _ (st : Stores) (site : List ℕ) (q : Query) where
   traced-answer : (v : Verdict) → Tells 40 tracedFrom (tracedNumber (tracedBy st site q v)) (tracedNumbered (tracedBy st site q v)) (λ r. v ≡ Refuse r)
   unfolding tracedNumber
   traced-answer Fine =
       let d = traced-decoded (tracedBy st site q Fine) (omega arith) (lines-most st site q) (forwardings-most st site q) in
-      tells-accepted (ap (λ (i : Numbered). i .number) d) verdict-refused (traced-fits (tracedBy st site q Fine) (omega arith) (lines-most st site q) (forwardings-most st site q)) d
+      tells-accepted (ap (λ (i : Numbered). i .number) d) (λ r. fine-refuse) (traced-fits (tracedBy st site q Fine) (omega arith) (lines-most st site q) (forwardings-most st site q)) d
   traced-answer (Refuse r) =
       let t : Traced = tracedBy st site q (Refuse r) in
       let e : tracedNumber t ≡ number r = omega arith in
-      tells-refused r e refl (verdict-apart r) (omega arith) (ap tracedFrom (sym e) ∙ traced-decoded t (number-listed r .1) (omega arith) (omega arith))
+      tells-refused r e refl (λ q. refuse-one) (omega arith) (ap tracedFrom (sym e) ∙ traced-decoded t (number-listed r .1) (omega arith) (omega arith))
 
   module _ {room : List ℕ} {answer : ℕ} {room′ : List ℕ} (w : TracedThrough st site q room answer room′) where
     pub trace-told : Tells 40 tracedFrom answer (tracedNumbered (tracedBy st site q (firstOf (traceTests st site q (length room))))) (λ r. firstOf (traceTests st site q (length room)) ≡ Refuse r)
@@ -139,7 +133,7 @@ module _ (st : Stores) (site : List ℕ) (q : Query) where
     trace-leaves n = go (firstOf (traceTests st site q (length room))) refl
       where
         go : (v : Verdict) → firstOf (traceTests st site q (length room)) ≡ v → room′ ≡ room
-        go Fine e = absurd (n (trace-told .accepted .1 (λ r f. verdict-refused r (sym e ∙ f))))
+        go Fine e = absurd (n (trace-told .accepted .1 (λ r f. fine-refuse (sym e ∙ f))))
         go (Refuse r) e = w .left ∙ ap (λ (v : Verdict). over (listBy st site q v) room) e
 
 -- what stops a telegram: a crossing of the path, between lines below 256

@@ -10,6 +10,7 @@ use Rattle.cemi.specs.Layout.{plain}
 use Rattle.cemi.specs.Writing.{messageInRange}
 use Rattle.cemi.specs.declared.Codes.{Codes}
 use Rattle.cemi.specs.declared.Message.{Message}
+use Rattle.frame.proofs.Apart.{put-refused, unwritten-one}
 use Rattle.frame.proofs.Numbers.{refused-number}
 use Rattle.frame.proofs.Valid.{most-payload}
 use Rattle.frame.proofs.Writing.{put-iff}
@@ -17,24 +18,17 @@ use Rattle.frame.specs.Answers.{Numbered, writtenNumbered}
 use Rattle.frame.specs.Valid.{inRange}
 use Rattle.frame.specs.Writing.{written, roomAfter}
 use Rattle.frame.specs.declared.Meaning.{Meaning}
-use Rattle.frame.specs.declared.Refusal.{Refusal}
 use Rattle.frame.specs.declared.Written.{Written}
 use Rattle.frame.specs.declared.Written.the-variants.{Put, Refused}
 use Rattle.klumdray.proofs.Bits.{Field, _holding_, packed, Fit, read-back, below}
 use Rattle.klumdray.proofs.Telling.{number-alone, tells-refused, tells-accepted, accepted-values}
 use Rattle.klumdray.specs.Decoding.{numberIn, writtenIn, writtenFrom, Tells}
 use Rattle.klumdray.specs.Numbers.{writtenNumber, WroteNumber}
-use Rattle.octets.proofs.Below.{and-true}
+use Rattle.octets.proofs.Truth.{and-true}
 use Rattle.routing.proofs.LayoutLaws.{length-routing}
 use Rattle.routing.specs.Layout.{routingOctets}
 use Rattle.tp1.proofs.LayoutLaws.{octets-most}
 use Rattle.tp1.specs.Layout.{tp1Octets}
-
-written-refused : (n : ℕ) (r : Refusal) → _≡_ {A = Written} (Put n) (Refused r) → ⊥
-written-refused n r e = let z : _≡_ {A = ℕ} 0 1 = cc in absurd (omega arith)
-
-written-apart : (q r : Refusal) → _≡_ {A = Written} (Refused q) (Refused r) → q ≡ r
-written-apart q r e = cc
 
 written-answer : (w : Written) → ((n : ℕ) → w ≡ Put n → n ≤ 270) → Tells 64 writtenFrom (writtenNumber w) (writtenNumbered w) (λ r. w ≡ Refused r)
 written-answer (Put n) h =
@@ -43,8 +37,8 @@ written-answer (Put n) h =
     let e : n * 2 ^ 8 ≡ packed fs = omega arith in
     let field = read-back fs (n * 2 ^ 8) fit e in
     let z : numberIn (n * 2 ^ 8) ≡ 0 = field 0 (omega arith) in
-    tells-accepted z (written-refused n) (below fs (n * 2 ^ 8) fit e) (rw (z, field 1 (omega arith)))
-written-answer (Refused q) h = tells-refused q refl refl (written-apart q) (omega arith) (rw (number-alone q, refused-number q))
+    tells-accepted z (λ r e. put-refused (sym e)) (below fs (n * 2 ^ 8) fit e) (rw (z, field 1 (omega arith)))
+written-answer (Refused q) h = tells-refused q refl refl (λ r. unwritten-one) (omega arith) (rw (number-alone q, refused-number q))
 
 module _ {ranged : Bool} {octets room : List ℕ} {answer : ℕ} {after : List ℕ} (most : ranged ≡ true → length octets ≤ 270) (w : WroteNumber ranged octets room answer after) where
   pub written-told : Tells 64 writtenFrom answer (writtenNumbered (written ranged octets room)) (λ r. written ranged octets room ≡ Refused r)
@@ -67,7 +61,7 @@ module _ {ranged : Bool} {octets room : List ℕ} {answer : ℕ} {after : List �
   written-leaves n = go (written ranged octets room) refl
     where
       go : (v : Written) → written ranged octets room ≡ v → after ≡ room
-      go (Put k) e = absurd (n (written-told .accepted .1 (λ r f. written-refused k r (sym e ∙ f))))
+      go (Put k) e = absurd (n (written-told .accepted .1 (λ r f. put-refused (sym f ∙ e))))
       go (Refused r) e = w .left ∙ ap (λ (v : Written). roomAfter v octets room) e
 
 -- each format's frame, where the numbers are in range

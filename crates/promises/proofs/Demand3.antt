@@ -11,6 +11,7 @@ use native.Mathlib.Omega.{arith}
 use lib.Dec.{eqb, leb}
 use lib.ListN.{length, take, drop}
 use borrow.Author.Tests.{leb-true, eqb-true, le-ltb}
+use Rattle.octets.proofs.Truth.{by-cases, and-true}
 use Rattle.passing.specs.Answers.{passageNumber}
 use Rattle.passing.specs.Passing.{doesPass}
 use Rattle.passing.specs.declared.Passage.{Passage}
@@ -21,7 +22,6 @@ use Rattle.frame.specs.Order.{firstOf, answerBy, NoneOf}
 use Rattle.frame.specs.declared.Verdict.the-variants.{Fine}
 use Rattle.frame.specs.declared.Verdict.{Verdict}
 use Rattle.frame.specs.Refusals.{number}
-use Rattle.octets.proofs.Below.{and-true}
 use Rattle.octets.specs.Octets.{Octets}
 use Rattle.octets.specs.Room.{over}
 use Rattle.site.proofs.RecordCount.{site-most}
@@ -31,7 +31,7 @@ use Rattle.site.specs.Stores.{Stores}
 use Rattle.site.specs.WellFormed.{isAmong, siteTests}
 use Rattle.tracer.proofs.Explained.{reached-iff, not-reached, StopsBehind, stopOf, stops-once}
 use Rattle.tracer.proofs.ListLaws.{trace-three-each, trace-less-one}
-use Rattle.tracer.proofs.Paths.{by-cases, path-same, distance-four}
+use Rattle.tracer.proofs.Paths.{path-same, distance-four}
 use Rattle.tracer.proofs.RoomList.{Rising, octetsOf, rising-one, listed-at, listed-iff, lasts-iff, linesOn, lines-octets, lines-count, lines-rise, lines-are}
 use Rattle.tracer.specs.Answers.{explanationNumbered}
 use Rattle.tracer.specs.Lines.{mainSide, Crossing, path, distance}

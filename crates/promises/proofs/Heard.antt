@@ -6,7 +6,6 @@ use mathlib.Core.Bool.{Bool, true, false}
 use mathlib.Core.List.{List}
 use mathlib.Core.Logic.{_↔_}
 use mathlib.Core.Path.{_≡_, refl, sym, ap, _∙_, subst}
-use native.Mathlib.Omega.{arith}
 use lib.ListN.{drop}
 use borrow.Author.Tests.{eqb-true, not-true}
 use Rattle.cemi.proofs.LayoutLaws.{message-ranges}
@@ -19,7 +18,9 @@ use Rattle.cemi.specs.declared.CemiAnswer.the-variants.{Frame as Message-is, Re
 use Rattle.cemi.specs.declared.CemiAnswer.{CemiAnswer}
 use Rattle.cemi.specs.declared.Codes.the-variants.{IndicationOnly}
 use Rattle.cemi.specs.declared.Message.{Message}
+use Rattle.coupler.proofs.Apart.{frame-nothing, frame-one, nothing-one}
 use Rattle.coupler.specs.Step.{Coupler, settingTests, fromIp, frame, nothing, heardTp1, heardIp, readBy, readerTests, stepTests, after, heard, indication}
+use Rattle.frame.proofs.Apart.{refuse-one}
 use Rattle.frame.proofs.Order.{passed-iff, refused-iff, first-passed, first-refused}
 use Rattle.frame.specs.Order.{firstOf, answerBy, NoneOf, FirstIs}
 use Rattle.frame.specs.declared.Verdict.the-variants.{Fine, Refuse}
@@ -50,18 +51,6 @@ pub record Hears (k : Coupler) (s : List ℕ) (room : ℕ) (m : Meaning) (p : Li
   pub set : NoneOf (settingTests k room)
   pub is : IsFrameOn s m p (fromIp k)
 
-frame-apart : {A : Type 0} {m : Meaning} {p : List ℕ} {r : Refusal} → nothing r ≡ frame m p → A
-frame-apart e = let z : _≡_ {A = ℕ} 0 1 = cc in absurd (omega arith)
-
-frame-one : {m n : Meaning} {p q : List ℕ} → frame m p ≡ frame n q → (m ≡ n) × (p ≡ q)
-frame-one e = (cc, cc)
-
-refuse-one : {q r : Refusal} → Refuse q ≡ Refuse r → q ≡ r
-refuse-one e = cc
-
-nothing-one : {q r : Refusal} → nothing q ≡ nothing r → q ≡ r
-nothing-one e = cc
-
 -- a message that is read where only indications are is the indication of its meaning
 is-indication : (x : Message) (k : ℕ) → messageInRange IndicationOnly x k ≡ true → x ≡ indication (x .meaning)
 is-indication x k e =
@@ -83,7 +72,7 @@ read-iff false s m p o = (to (readTp1 s) refl, from)
         let f = frame-one e in
         let w = read-laid s x o q in
         subst (λ (y : Meaning). IsFrameOn s y p false) (f .0) (subst (λ (l : List ℕ). IsFrameOn s x l false) (f .1) (record { valid = w .valid; layout = w .layout }))
-    to (Refused r) q e = frame-apart e
+    to (Refused r) q e = frame-nothing e
 
     from : IsFrameOn s m p false → heardTp1 (readTp1 s) s ≡ frame m p
     from f =
@@ -104,7 +93,7 @@ read-iff true s m p o = (to (readRouting s) refl, from)
         (record { unread = w .unread; informed = w .information; valid = w .valid; layout = w .layout }) in
         subst (λ (y : Meaning). IsFrameOn s y p true) (f .0)
         (subst (λ (l : List ℕ). IsFrameOn s (x .meaning) l true) (f .1) (information, record { indication = drop 6 s; message = message; layout = d .0 }))
-    to (Message-not r) q e = frame-apart e
+    to (Message-not r) q e = frame-nothing e
 
     from : IsFrameOn s m p true → heardIp (readRouting s) s ≡ frame m p
     from (i, d) =
@@ -146,7 +135,7 @@ module _ (k : Coupler) (s : List ℕ) (room : ℕ) where
     where
       to : (v : Verdict) → firstOf (settingTests k room) ≡ v → after v (readBy (fromIp k) s) ≡ frame m p → Hears k s room m p
       to Fine e q = record { set = passed-iff (settingTests k room) .0 e; is = read-iff (fromIp k) s m p o .0 q }
-      to (Refuse r) e q = frame-apart q
+      to (Refuse r) e q = frame-nothing q
 
       from : Hears k s room m p → after (firstOf (settingTests k room)) (readBy (fromIp k) s) ≡ frame m p
       from h = ap (λ (v : Verdict). after v (readBy (fromIp k) s)) (passed-iff (settingTests k room) .1 (h .set)) ∙ read-iff (fromIp k) s m p o .1 (h .is)
@@ -163,7 +152,7 @@ module _ (k : Coupler) (s : List ℕ) (room : ℕ) where
   )
     where
       read : (v : Verdict) → answerBy nothing (frame (order .meaning) (order .payload)) v ≡ nothing r → v ≡ Refuse r
-      read Fine e = frame-apart (sym e)
+      read Fine e = frame-nothing (sym e)
       read (Refuse q) e = ap Refuse (nothing-one e)
 
       to : (v : Verdict) → firstOf (settingTests k room) ≡ v → after v (readBy (fromIp k) s) ≡ nothing r → firstOf (stepTests k s room) ≡ Refuse r

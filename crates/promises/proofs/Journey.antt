@@ -16,14 +16,13 @@ use Rattle.frame.specs.declared.Verdict.the-variants.{Fine}
 use Rattle.frame.specs.declared.Verdict.{Verdict}
 use Rattle.frame.specs.Valid.{Valid}
 use Rattle.frame.specs.declared.Meaning.{Meaning}
-use Rattle.octets.proofs.Below.{and-true}
+use Rattle.octets.proofs.Truth.{by-cases, and-true}
 use Rattle.octets.specs.Octets.{Octets, weigh}
 use Rattle.octets.specs.Room.{over}
 use Rattle.site.specs.WellFormed.{siteTests}
 use Rattle.journey.proofs.Handing.{backbone-ip}
 use Rattle.journey.proofs.Journey.{list-is-journey, arrives-listed, arrives-below, sends-so-many, sends-once as sends-alike}
 use Rattle.tracer.proofs.ListLaws.{trace-and-one}
-use Rattle.tracer.proofs.Paths.{by-cases}
 use Rattle.journey.proofs.SoMany.{so-many-one}
 use Rattle.tracer.proofs.Standing.{ListedWith, stands-iff, stands-once}
 use Rattle.journey.specs.Journey.{AtWork, isIp, formOn, Arrives, Sends, SoMany, ArrivesWith, withCount, askedOf}

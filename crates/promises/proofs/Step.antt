@@ -11,11 +11,13 @@ use lib.Dec.{ltb, eqb}
 use lib.ListN.{length}
 use borrow.Author.Tests.{ltb-true, eqb-true, eqb-false, not-false, ne-eqb}
 use Rattle.coupler.proofs.Answers.{acknowledgement-apart}
+use Rattle.coupler.proofs.Apart.{frame-nothing}
 use Rattle.coupler.proofs.Promised.{Forwardable, forwardable-iff, forwarded-iff, acknowledged-iff, remembers-main, remembers-sub}
 use Rattle.coupler.proofs.Refusals.{number-iff}
 use Rattle.coupler.proofs.StepLaws.{forwarded-ranged, heard-size}
 use Rattle.coupler.specs.Answers.{acknowledgementNumber}
 use Rattle.coupler.specs.Memory.{recalled, sideOf, rememberedOn}
+use Rattle.octets.proofs.Truth.{never, and-true}
 use Rattle.passing.specs.Passing.{isOwn, mayPass}
 use Rattle.coupler.specs.Step.{Coupler, stepTests, fromIp, toIp, Heard, frame, nothing, heard, isForItself, isAllowed, repeats, isForwarded, acknowledgementBy, forwardedMeaning, indication, formOf, forwardedOctets, outcomeBy, sentBy, memoryAfter, Did}
 use Rattle.coupler.specs.declared.Acknowledgement.the-variants.{Silence, Acknowledged}
@@ -28,7 +30,6 @@ use Rattle.frame.specs.Refusals.{number}
 use Rattle.frame.specs.Valid.{Valid}
 use Rattle.frame.specs.declared.Meaning.{Meaning}
 use Rattle.frame.specs.declared.Refusal.{Refusal}
-use Rattle.octets.proofs.Below.{and-true}
 use Rattle.octets.specs.Octets.{Octets}
 use Rattle.octets.specs.Room.{over}
 use Rattle.routing.specs.Layout.{routingOctets}
@@ -75,12 +76,6 @@ pub record Refuses (m : Memory) (room : List ℕ) (r : Refusal) (o : Outcome) (m
 pub data StepEnds (k : Coupler) (m : Memory) (s room : List ℕ) (o : Outcome) (m′ : Memory) (room′ : List ℕ) : Type 0 where
   accepts : (x : Meaning) (p : List ℕ) → Hears k s (length room) x p → Draws k m s room x p o m′ room′ → StepEnds k m s room o m′ room′
   refuses : (r : Refusal) → FirstIs (stepTests k s (length room)) r → Refuses m room r o m′ room′ → StepEnds k m s room o m′ room′
-
-heard-apart : {A : Type 0} {x : Meaning} {p : List ℕ} {r : Refusal} → nothing r ≡ frame x p → A
-heard-apart e = let z : _≡_ {A = ℕ} 0 1 = cc in absurd (omega arith)
-
-bool-apart : {A : Type 0} → false ≡ true → A
-bool-apart e = let z : _≡_ {A = ℕ} 0 1 = cc in absurd (omega arith)
 
 module _ (k : Coupler) (m : Memory) (s room : List ℕ) where
   -- what a frame draws by the definition
@@ -140,9 +135,9 @@ module _ (k : Coupler) (m : Memory) (s room : List ℕ) where
         unearned n = a .silent n ∙ sym (b .silent n)
 
         go : (ip c : Bool) → fromIp k ≡ ip → isForItself k x || isAllowed k x ≡ c → acknowledgementNumber (o₁ .acknowledgement) ≡ acknowledgementNumber (o₂ .acknowledgement)
-        go true c e f = unearned (λ n. bool-apart (sym (n .on-tp1) ∙ e))
+        go true c e f = unearned (λ n. never (sym e ∙ n .on-tp1))
         go false true e f = let y : Earns k x = record { on-tp1 = e; addressed = f } in a .acknowledged y ∙ sym (b .acknowledged y)
-        go false false e f = unearned (λ n. bool-apart (sym f ∙ n .addressed))
+        go false false e f = unearned (λ n. never (sym (n .addressed) ∙ f))
 
     one-forwarding : (o₁ .forwarded ≡ o₂ .forwarded) × (room₁ ≡ room₂)
     one-forwarding = go (isForwarded k (repeats k (rememberedBy k m) s) x) refl
@@ -150,7 +145,7 @@ module _ (k : Coupler) (m : Memory) (s room : List ℕ) where
         go : (c : Bool) → isForwarded k (repeats k (rememberedBy k m) s) x ≡ c → (o₁ .forwarded ≡ o₂ .forwarded) × (room₁ ≡ room₂)
         go true e = let f = forwardable-iff k (rememberedBy k m) s x .0 e in (a .forwards f .0 ∙ sym (b .forwards f .0), a .forwards f .1 ∙ sym (b .forwards f .1))
         go false e =
-            let n : Forwardable k (rememberedBy k m) s x → ⊥ = λ f. bool-apart (sym e ∙ forwardable-iff k (rememberedBy k m) s x .1 f) in
+            let n : Forwardable k (rememberedBy k m) s x → ⊥ = λ f. never (sym (forwardable-iff k (rememberedBy k m) s x .1 f) ∙ e) in
             (a .stops n .0 ∙ sym (b .stops n .0), a .stops n .1 ∙ sym (b .stops n .1))
 
     one-memory : m₁ ≡ m₂
@@ -174,8 +169,8 @@ module _ (k : Coupler) (m : Memory) (s room : List ℕ) where
       let ex : y ≡ x = cc in
       let ep : q ≡ p = cc in
       draws-one x p a (subst (λ (z : Meaning). Draws k m s room z p o₂ m₂ room₂) ex (subst (λ (z : List ℕ). Draws k m s room y z o₂ m₂ room₂) ep b))
-  step-one c (accepts x p h a) (refuses r f b) = heard-apart (sym (refuses-iff k s (length room) r .1 f) ∙ hears-iff k s (length room) x p c .1 h)
-  step-one c (refuses r f a) (accepts y q i b) = heard-apart (sym (refuses-iff k s (length room) r .1 f) ∙ hears-iff k s (length room) y q c .1 i)
+  step-one c (accepts x p h a) (refuses r f b) = frame-nothing (sym (refuses-iff k s (length room) r .1 f) ∙ hears-iff k s (length room) x p c .1 h)
+  step-one c (refuses r f a) (accepts y q i b) = frame-nothing (sym (refuses-iff k s (length room) r .1 f) ∙ hears-iff k s (length room) y q c .1 i)
   step-one {o₁} {o₂} c (refuses r f a) (refuses q g b) =
       let e : nothing r ≡ nothing q = sym (refuses-iff k s (length room) r .1 f) ∙ refuses-iff k s (length room) q .1 g in
       let z : r ≡ q = cc in

@@ -8,6 +8,7 @@ use native.Mathlib.Omega.{arith}
 use lib.ListN.{length, take, drop, replicate, length-append, length-drop}
 use lib.Seq.{take-at}
 use borrow.Author.Tests.{ltb-true, lt-ltb, le-ltb}
+use Rattle.frame.proofs.Apart.{put-refused}
 use Rattle.frame.proofs.Numbers.{number-listed}
 use Rattle.frame.specs.Order.{firstOf, answerBy, _gives_}
 use Rattle.frame.specs.declared.Verdict.the-variants.{Fine, Refuse}
@@ -119,7 +120,7 @@ reported-one {s} {room} {r₁} {r₂} x y =
 -- 13 exactly if the room is too small
 small : (b : Bool) (n : ℕ) → answerBy Refused (Put n) (firstOf (b gives SmallRoom ∷ [])) ≡ Refused SmallRoom → b ≡ true
 small true n e = refl
-small false n e = let z : _≡_ {A = ℕ} 0 1 = cc in absurd (omega arith)
+small false n e = put-refused (sym e)
 
 pub refused-13 : (s room : List ℕ) → reported s room ≡ Refused SmallRoom ↔ (length room < 8192)
 unfolding reported

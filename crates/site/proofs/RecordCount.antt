@@ -11,6 +11,7 @@ use borrow.Author.Tests.{eq-eqb, ne-eqb}
 use Rattle.frame.specs.Order.{NoneOf}
 use Rattle.passing.specs.Settings.{areCodes}
 use Rattle.octets.proofs.Octets.{octets-take, octets-drop}
+use Rattle.octets.proofs.Truth.{or-false}
 use Rattle.octets.specs.Octets.{Octets}
 use Rattle.site.proofs.RecordLaws.{by-equal, size-some}
 use Rattle.site.specs.Records.{recordSize, recordsBy, recordsOf, lineOf, codesOf}
@@ -46,10 +47,6 @@ standing-more t l a (suc n) h =
     (λ e. rw (← e, standing-same t l t (omega arith), eq-eqb t t refl, a) (omega arith))
     (λ e. rw (standing-more t l a n (omega (arith, e)), ne-eqb t n e) (omega arith))
 
-or-false : (a b : Bool) → a || b ≡ false → a ≡ false
-or-false true b e = e
-or-false false b e = refl
-
 -- so many records had these lines, each its own and none 00h
 pub record Counted (lines : List ℕ) (count : ℕ) : Type 0 where
   free : isAmong 0 lines ≡ false
@@ -64,7 +61,7 @@ counted-most {lines} w = omega (arith, w .many, standing-most lines (w .free) 25
 pub counted-more : {lines : List ℕ} {count : ℕ} → Counted lines count → (r : List ℕ) → lineOf r < 256
     → (eqb (lineOf r) 0 || not (areCodes (codesOf r))) ≡ false → isAmong (lineOf r) lines ≡ false → Counted (lineOf r ∷ lines) (suc count)
 counted-more {lines} w r below set fresh =
-    let some : eqb (lineOf r) 0 ≡ false = or-false (eqb (lineOf r) 0) (not (areCodes (codesOf r))) set in
+    let some : eqb (lineOf r) 0 ≡ false = or-false (eqb (lineOf r) 0) (not (areCodes (codesOf r))) set .0 in
     record { free = rw (some, w .free) refl; many = omega (arith, w .many, standing-more (lineOf r) lines fresh 256 below) }
 
 -- so many records at most, and so many octets

@@ -4,19 +4,20 @@ use Prim.Native.Nat.{ℕ, _≤_, _<_}
 use mathlib.Core.Bool.{Bool, true, false, _&&_}
 use mathlib.Core.List.{List, [], _∷_}
 use mathlib.Core.Logic.{_↔_}
-use mathlib.Core.Path.{_≡_, refl, sym, ap}
+use mathlib.Core.Path.{_≡_, refl}
 use native.Mathlib.Omega.{arith}
 use lib.Dec.{leb}
 use borrow.Author.Tests.{leb-true, ne-eqb}
+use Rattle.frame.proofs.Apart.{fine-refuse}
 use Rattle.frame.specs.Order.{Test, firstOf, NoneOf, FirstIs, _gives_}
 use Rattle.frame.specs.Refusals.{number}
 use Rattle.frame.specs.declared.Refusal.{Refusal}
-use Rattle.octets.proofs.Below.{and-true}
+use Rattle.octets.proofs.Truth.{and-true}
 use Rattle.site.specs.Records.{recordsOf, lineOf}
 use Rattle.site.specs.Stores.{Stores}
 use Rattle.site.specs.WellFormed.{recordsTests, siteTests}
 use Rattle.frame.specs.declared.Verdict.the-variants.{Fine, Refuse}
-use Rattle.frame.proofs.Order.{passed-iff, refused-iff as order-iff, givesNot, once-iff}
+use Rattle.frame.proofs.Order.{passed-iff, refused-iff as order-iff, givesNot}
 
 -- every test gives 15, 16, 17 or 18
 abbrev pub areSites : List Test → Bool
@@ -38,7 +39,7 @@ pub refused-iff : (st : Stores) (site : List ℕ) (r : Refusal) → firstOf (sit
 refused-iff st site = order-iff (siteTests st site)
 
 numbered-by : (ts : List Test) (r : Refusal) → areSites ts ≡ true → firstOf ts ≡ Refuse r → (15 ≤ number r) × (number r ≤ 18)
-numbered-by [] r a e = let z : _≡_ {A = ℕ} 0 1 = cc in absurd (omega arith)
+numbered-by [] r a e = fine-refuse e
 numbered-by (true gives q ∷ ts) r a e =
     let h : q ≡ r = cc in
     let x = and-true (leb 15 (number q)) (leb (number q) 18 && areSites ts) a in

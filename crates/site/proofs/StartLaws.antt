@@ -1,15 +1,14 @@
 -- The starts that a survey of a well-formed site notes find the record of each line's coupler.
 use Prim.Native.Nat.{ℕ, zero, suc, _+_, _-_, _≤_, _<_}
 use mathlib.Core.Bool.{Bool, true, false, cond}
-use mathlib.Core.List.{List, [], _∷_}
+use mathlib.Core.List.{List, []}
 use mathlib.Core.Path.{_≡_, refl, sym, ap, _∙_}
 use native.Mathlib.Omega.{arith}
 use lib.Dec.{eqb}
-use lib.ListN.{length, getD, drop, drop-of-length-le}
+use lib.ListN.{length, drop, drop-of-length-le}
 use Rattle.frame.proofs.Order.{passed-iff}
 use Rattle.frame.specs.declared.Verdict.the-variants.{Fine}
 use Rattle.octets.specs.Octets.{Octets}
-use Rattle.passing.specs.declared.Passage.{Passage}
 use Rattle.site.proofs.RecordCount.{site-most}
 use Rattle.site.proofs.RecordLaws.{records-more, records-end, record-size, by-equal}
 use Rattle.site.specs.Letting.{letsPass, lineLetsPass, lineLetsPassBy, MarksBothWays, passageBy, passageAt}

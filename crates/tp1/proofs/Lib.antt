@@ -1,3 +1,4 @@
+pub mod Apart
 pub mod Size
 pub mod LayoutLaws
 pub mod Refusals

@@ -6,7 +6,7 @@ use native.Mathlib.Numerals.{add-one}
 use native.Mathlib.Omega.{arith}
 use lib.Dec.{leb, eqb}
 use borrow.Author.Tests.{leb-true, leb-false, eqb-true, eqb-false, le-leb, lt-leb, eq-eqb, ne-eqb}
-use Rattle.tracer.proofs.Paths.{by-cases}
+use Rattle.octets.proofs.Truth.{by-cases}
 use Rattle.tracer.specs.Query.{hoppedIn, onArrival}
 use Rattle.tracer.specs.Listing.{lasts}
 use Rattle.tracer.specs.declared.Query.{Query}

@@ -8,10 +8,10 @@ use native.Mathlib.Omega.{arith}
 use lib.Dec.{eqb}
 use lib.ListN.{length-append}
 use borrow.Author.Tests.{not-false}
+use Rattle.octets.proofs.Truth.{by-cases, never, and-yes, and-false}
 use Rattle.site.specs.WellFormed.{isAmong}
 use Rattle.tracer.proofs.CountLaws.{lasts-more}
-use Rattle.tracer.proofs.Paths.{by-cases, never, on-zero, path-down, path-up, above-of, over-own, over-main}
-use Rattle.tracer.proofs.ReachingLaws.{and-yes, and-false}
+use Rattle.tracer.proofs.Paths.{on-zero, path-down, path-up, above-of, over-own, over-main}
 use Rattle.tracer.specs.Lines.{mainSides, Crossing, up, down, crossing, fromLine, toLine, cameOver, path, distance}
 use Rattle.tracer.specs.Query.{onArrival}
 use Rattle.tracer.specs.Listing.{allPass, lasts, isListed, isForwarding}

@@ -10,15 +10,14 @@ use native.Mathlib.Omega.{arith}
 use lib.Dec.{ltb, eqb}
 use lib.ListN.{length, getD, drop}
 use borrow.Author.Tests.{lt-ltb}
+use Rattle.octets.proofs.Truth.{by-cases, never, and-true}
 use Rattle.passing.specs.Passing.{doesPass}
 use Rattle.passing.specs.declared.Passage.{Passage}
-use Rattle.octets.proofs.Below.{and-true}
 use Rattle.site.proofs.LettingLaws.{passage-lets}
 use Rattle.site.specs.Letting.{passageAt}
 use Rattle.site.specs.Records.{recordsOf}
 use Rattle.site.specs.Stores.{Stores}
 use Rattle.tracer.proofs.CountLaws.{lasts-none, left-lasts, arrival-none, hopped-more}
-use Rattle.tracer.proofs.Paths.{by-cases, never}
 use Rattle.tracer.proofs.ReachingLaws.{along-zero, reach-reached}
 use Rattle.tracer.proofs.RoomList.{lasts-iff}
 use Rattle.tracer.specs.Lines.{Crossing, path}

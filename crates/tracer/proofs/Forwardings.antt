@@ -7,9 +7,10 @@ use mathlib.Core.Path.{_≡_, refl, _∙_}
 use native.Mathlib.Omega.{arith}
 use lib.Dec.{ltb, eqb}
 use borrow.Author.Tests.{ltb-true, ltb-false, eqb-true, eqb-false, lt-ltb, le-ltb, eq-eqb, ne-eqb}
+use Rattle.octets.proofs.Truth.{by-cases, not-not}
 use Rattle.site.specs.WellFormed.{isAmong}
 use Rattle.tracer.proofs.Crossings.{forwarding-is}
-use Rattle.tracer.proofs.Paths.{by-cases, main-below, mains-zero, mains-cons, by-mains, on-below, over-own, over-main}
+use Rattle.tracer.proofs.Paths.{main-below, mains-zero, mains-cons, by-mains, on-below, over-own, over-main}
 use Rattle.tracer.specs.declared.Query.{Query}
 use Rattle.tracer.specs.Lines.{mainSide, mainSides, Crossing, up, down}
 use Rattle.tracer.specs.Listing.{isListed, countBelow, isForwarding, forwardingsBy}
@@ -81,10 +82,6 @@ module _ (g : ℕ → Bool) (n : ℕ) where
       go : (s : ℕ) → (s ≡ 0 → ⊥) → s ≤ n → cond (g 0) 1 0 + ownOf (mainSide s) ≡ cond (g (mainSide s)) 1 0 + mainOf (mainSide s) → cond (g 0) 1 0 + ownOf s ≡ cond (g s) 1 0 + mainOf s
       go zero z h e = absurd (z refl)
       go (suc k) z h e = omega (arith, above-more (λ i. g (suc i)) (suc k) k refl h, above-more (λ i. g (mainSide (suc i))) (suc k) k refl h, e)
-
-not-not : (b : Bool) → not (not b) ≡ b
-not-not true = refl
-not-not false = refl
 
 module _ (f : Crossing → Bool) (q : Query) where
   abbrev s : ℕ

@@ -8,11 +8,11 @@ use native.Mathlib.Omega.{arith}
 use lib.Dec.{ltb, eqb}
 use lib.ListN.{length, length-append}
 use borrow.Author.Tests.{ltb-true, ltb-false, eqb-true, eqb-false, lt-ltb, le-ltb}
+use Rattle.octets.proofs.Truth.{by-cases, and-yes}
 use Rattle.site.specs.Stores.{Stores}
 use Rattle.tracer.proofs.CountLaws.{lasts-none}
 use Rattle.tracer.proofs.Forwardings.{forwardings-listed}
-use Rattle.tracer.proofs.Paths.{by-cases, path-same, distance-same, distance-zero}
-use Rattle.tracer.proofs.ReachingLaws.{and-yes}
+use Rattle.tracer.proofs.Paths.{path-same, distance-same, distance-zero}
 use Rattle.tracer.specs.Lines.{Crossing, distance}
 use Rattle.tracer.specs.Listing.{crossingPasses, isListed, entry, eachBelow, countBelow, listed, linesListed, forwardingsBy, forwardings}
 use Rattle.tracer.specs.declared.Query.{Query}

@@ -11,6 +11,7 @@ use Rattle.frame.specs.declared.Verdict.{Verdict}
 use Rattle.frame.proofs.Order.{passed-iff, first-passed, first-refused}
 use Rattle.frame.specs.Order.{firstOf}
 use Rattle.frame.specs.declared.Refusal.{Refusal}
+use Rattle.octets.proofs.Truth.{by-cases}
 use Rattle.octets.specs.Room.{over}
 use Rattle.site.specs.Letting.{lineLetsPass, Marks}
 use Rattle.site.specs.Records.{recordsOf}
@@ -21,7 +22,7 @@ use Rattle.site.specs.declared.Surveyed.{Surveyed}
 use Rattle.tracer.proofs.Crossings.{all-append}
 use Rattle.tracer.proofs.Forwardings.{count-same}
 use Rattle.tracer.proofs.ListLaws.{forwarded-lines}
-use Rattle.tracer.proofs.Paths.{by-cases, main-below, by-mains, on-zero, before-on, before-off}
+use Rattle.tracer.proofs.Paths.{main-below, by-mains, on-zero, before-on, before-off}
 use Rattle.tracer.proofs.ReachingLaws.{reach-listed, reach-reached}
 use Rattle.tracer.specs.Lines.{mainSides, beforeCommon, Crossing, up, down, upOver, downOver, path, distance}
 use Rattle.tracer.specs.Listing.{crossingPasses, allPass, isListed, entry, eachBelow, countBelow, listed, linesListed, forwardings}

@@ -1,23 +1,17 @@
 -- Laws of the tree of lines and of the path between two of them. Every law about main sides goes by `by-mains`: from 00h, and from a
 -- line's main side to the line.
 use Prim.Native.Nat.{ℕ, zero, suc, _+_, _%_, _≤_, _<_}
-use mathlib.Core.Bool.{Bool, true, false, not, _||_}
+use mathlib.Core.Bool.{true, false, not}
 use mathlib.Core.List.{List, [], _∷_, _++_, append-assoc}
 use mathlib.Core.Path.{_≡_, refl, sym, ap, _∙_, subst}
 use native.Mathlib.Omega.{arith}
 use lib.Dec.{eqb}
 use lib.ListN.{length, length-append}
 use borrow.Author.Tests.{eqb-true, eqb-false, eq-eqb, ne-eqb}
+use Rattle.octets.proofs.Truth.{by-cases, never, or-right, or-false, or-cases}
 use Rattle.site.specs.WellFormed.{isAmong}
 use Rattle.tracer.specs.Lines.{mainSide, depth, mainSides, beforeCommon, Crossing, up, down, upOver, downOver, cameOver, path, distance}
 use Rattle.tracer.specs.Reaching.{climbing}
-
-pub by-cases : {P : Type 0} (b : Bool) → (b ≡ true → P) → (b ≡ false → P) → P
-by-cases true f g = f refl
-by-cases false f g = g refl
-
-pub never : {P : Type 0} → true ≡ false → P
-never e = let z : _≡_ {A = ℕ} 0 1 = cc in absurd (omega arith)
 
 main-flat : (n : ℕ) → mainSide n % 16 ≡ 0
 unfolding mainSide
@@ -87,27 +81,12 @@ by-mains P z s n = go (depth n) n refl
 
 -- what stands on the way to 00h
 
-or-true : (a b : Bool) → a ≡ true → a || b ≡ true
-or-true a b e = rw e
-
-pub or-right : (a b : Bool) → b ≡ true → a || b ≡ true
-or-right true b e = refl
-or-right false b e = e
-
-or-false : (a b : Bool) → a || b ≡ false → (a ≡ false) × (b ≡ false)
-or-false true b e = never e
-or-false false b e = (refl, e)
-
-or-cases : {P : Type 0} (a b : Bool) → a || b ≡ true → (a ≡ true → P) → (b ≡ true → P) → P
-or-cases true b e f g = f refl
-or-cases false b e f g = g e
-
 -- the line itself is the first
 pub on-self : (n : ℕ) → isAmong n (mainSides n) ≡ true
 on-self n =
     by-cases (eqb n 0)
     (λ q. rw (eqb-true n 0 q, mains-zero) refl)
-    (λ q. rw (mains-cons n (eqb-false n 0 q)) (or-true (eqb n n) _ (eq-eqb n n refl)))
+    (λ q. rw (mains-cons n (eqb-false n 0 q)) (rw (eq-eqb n n refl) refl))
 
 pub on-zero : (n : ℕ) → isAmong 0 (mainSides n) ≡ true
 on-zero = by-mains (λ n. isAmong 0 (mainSides n) ≡ true) (rw mains-zero refl) (λ n h ih. rw (mains-cons n h) (or-right (eqb n 0) _ ih))
@@ -165,7 +144,7 @@ before-top t =
     (λ s h ih e. by-cases (eqb s t) (λ q. top s (eqb-true s t q)) (λ q. climb s h ih (eqb-false s t q) e))
   where
     top : (s : ℕ) → s ≡ t → beforeCommon (mainSides s) (mainSides t) ≡ beforeCommon (mainSides s) (t ∷ [])
-    top s z = rw (z, before-on t (mainSides t) (on-self t), before-on t (t ∷ []) (or-true (eqb t t) false (eq-eqb t t refl))) refl
+    top s z = rw (z, before-on t (mainSides t) (on-self t), before-on t (t ∷ []) (rw (eq-eqb t t refl) refl)) refl
 
     climb : (s : ℕ) → (s ≡ 0 → ⊥) → (isAmong t (mainSides (mainSide s)) ≡ true → beforeCommon (mainSides (mainSide s)) (mainSides t) ≡ beforeCommon (mainSides (mainSide s)) (t ∷ []))
         → (s ≡ t → ⊥) → isAmong t (mainSides s) ≡ true → beforeCommon (mainSides s) (mainSides t) ≡ beforeCommon (mainSides s) (t ∷ [])
@@ -198,7 +177,7 @@ climb-more n s k =
     s
   where
     alone : (m : ℕ) → beforeCommon (mainSides m) (m ∷ []) ≡ []
-    alone m = before-on m (m ∷ []) (or-true (eqb m m) false (eq-eqb m m refl))
+    alone m = before-on m (m ∷ []) (rw (eq-eqb m m refl) refl)
 
     apart : (m s : ℕ) → (m ≡ s → ⊥) → (s ≡ 0 → ⊥) → climbing s m ≡ up s ∷ climbing (mainSide s) m
     apart m s d h = ap upOver (before-off s (m ∷ []) h (rw (ne-eqb m s d) refl))

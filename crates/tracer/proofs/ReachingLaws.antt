@@ -11,9 +11,10 @@ use lib.Dec.{ltb, eqb, leb·suc-suc}
 use lib.ListN.{length, getD, set, length-set, replicate}
 use lib.Seq.{getD-set-same, getD-set-other}
 use borrow.Author.Tests.{eqb-true, eqb-false, lt-ltb, eq-eqb, ne-eqb}
+use Rattle.octets.proofs.Truth.{by-cases, never, and-false}
 use Rattle.site.specs.WellFormed.{isAmong}
 use Rattle.tracer.proofs.CountLaws.{lasts-none, lasts-less}
-use Rattle.tracer.proofs.Paths.{by-cases, never, main-below, depth-main, mains-zero, mains-cons, on-self, on-zero, on-next, before-on, before-off, path-climb, path-down, distance-four}
+use Rattle.tracer.proofs.Paths.{main-below, depth-main, mains-zero, mains-cons, on-self, on-zero, on-next, before-on, before-off, path-climb, path-down, distance-four}
 use Rattle.tracer.specs.Lines.{mainSide, depth, mainSides, beforeCommon, Crossing, upOver, path, distance}
 use Rattle.tracer.specs.Listing.{allPass, lasts, isListed, countBelow}
 use Rattle.tracer.specs.Reaching.{handed, along, reach, marked, climbing, reachBy, isForwardedTo, Spread}
@@ -38,14 +39,6 @@ along-zero f c (x ∷ p) = rw (handed-zero c (f x)) (along-zero f c p)
 handed-on : (c d : ℕ) (b : Bool) → handed c (suc d) b ≡ cond (b && lasts c (suc d)) (suc (suc d)) 0
 unfolding handed
 handed-on c d b = rw (lt-ltb 0 (suc d) (omega arith))
-
-pub and-yes : (a : Bool) → a && true ≡ a
-and-yes true = refl
-and-yes false = refl
-
-pub and-false : (a : Bool) → a && false ≡ false
-and-false true = refl
-and-false false = refl
 
 -- listed or not: from d couplers crossed on
 along-from : (f : Crossing → Bool) (c d : ℕ) (p : List Crossing) → lasts c d ≡ true

@@ -10,8 +10,8 @@ use lib.Dec.{leb}
 use lib.ListN.{length, getD, length-append, take-append-drop}
 use borrow.Author.Tests.{lt-ltb}
 use Rattle.octets.proofs.Room.{laid-behind}
+use Rattle.octets.proofs.Truth.{by-cases}
 use Rattle.octets.specs.Room.{laid, over}
-use Rattle.tracer.proofs.Paths.{by-cases}
 use Rattle.tracer.proofs.ReachingLaws.{count-most}
 use Rattle.tracer.specs.Query.{onArrival}
 use Rattle.tracer.specs.Listing.{eachBelow, countBelow}

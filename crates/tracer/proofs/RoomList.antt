@@ -1,7 +1,7 @@
 -- The list line by line: the listed lines in rising order, and the octets of each, one line's behind the other's. Two rising lists with the
 -- same lines are one list, so what is said of the lines leaves one room only.
 use Prim.Native.Nat.{ℕ, zero, suc, _+_, _*_, _≤_, _<_}
-use mathlib.Core.Bool.{Bool, true, false, cond, _&&_, _||_}
+use mathlib.Core.Bool.{Bool, true, cond, _&&_, _||_}
 use mathlib.Core.List.{List, [], _∷_, _++_, append-nil, append-assoc}
 use mathlib.Core.Logic.{_↔_, _⊎_, inl, inr, ⊎-elim}
 use mathlib.Core.Path.{_≡_, refl, sym, ap, _∙_}
@@ -10,11 +10,9 @@ use lib.Dec.{ltb, leb, eqb}
 use lib.ListN.{length, getD, take, drop, length-append, List·getD-append}
 use lib.Seq.{getD-append-seam, drop-append-add, take-at}
 use borrow.Author.Tests.{ltb-true, ltb-false, leb-true, eqb-true, eqb-false, lt-ltb, le-ltb, le-leb, eq-eqb}
-use Rattle.octets.proofs.Below.{and-true}
+use Rattle.octets.proofs.Truth.{by-cases, never, and-true, and-false, or-no, or-right}
 use Rattle.site.specs.Stores.{Stores}
 use Rattle.site.specs.WellFormed.{isAmong}
-use Rattle.tracer.proofs.Paths.{by-cases, never, or-right}
-use Rattle.tracer.proofs.ReachingLaws.{and-false}
 use Rattle.tracer.specs.Lines.{Crossing, path, distance}
 use Rattle.tracer.specs.Query.{onArrival}
 use Rattle.tracer.specs.Listing.{crossingPasses, allPass, lasts, isListed, entry, eachBelow, countBelow, listed, linesListed}
@@ -76,10 +74,6 @@ octets-append f (n ∷ l) m = rw (octets-append f l m) (sym (append-assoc (f n) 
 among-append : (n : ℕ) (l m : List ℕ) → isAmong n (l ++ m) ≡ isAmong n l || isAmong n m
 among-append n [] m = refl
 among-append n (a ∷ l) m = by-cases (eqb a n) (λ e. rw e refl) (λ e. rw e (among-append n l m))
-
-or-no : (a : Bool) → a || false ≡ a
-or-no true = refl
-or-no false = refl
 
 -- all of a list are below a number, and it rises: so it does with that number behind it
 abbrev RisesTo : ℕ → List ℕ → Type 0

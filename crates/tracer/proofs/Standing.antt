@@ -10,11 +10,11 @@ use lib.Dec.{ltb, eqb}
 use lib.ListN.{length, take, drop}
 use lib.Seq.{drop-append-seam}
 use borrow.Author.Tests.{ltb-true, ltb-false, eqb-true, eqb-false}
+use Rattle.octets.proofs.Truth.{by-cases}
 use Rattle.octets.specs.Octets.{octetAt}
 use Rattle.octets.specs.Room.{over}
 use Rattle.site.specs.Stores.{Stores}
 use Rattle.tracer.proofs.ListLaws.{three-each}
-use Rattle.tracer.proofs.Paths.{by-cases}
 use Rattle.tracer.specs.Lines.{distance}
 use Rattle.tracer.specs.Query.{onArrival}
 use Rattle.tracer.specs.Listing.{crossingPasses, isListed, entry, StandsIn, eachBelow, countBelow, listed, linesListed}
