@@ -63,12 +63,15 @@
  * 01h to FFh, has the own address n followed by 00h. Its sub side is n. Its main side is n with the
  * low four bits cleared if those are not zero, else 00h: of 47h it is 40h, of 40h it is 00h.
  *
- * A coupler's codes are a block of 8 octets: four for main to sub, then four for sub to main.
+ * A coupler's settings are a block of 10 octets. Octets 1 to 4 are the four codes main to sub,
+ * octets 5 to 8 the four codes sub to main.
  *
- *   octets 0 and 4  individual addresses: 0, 1, 2
- *   octets 1 and 5  broadcast, which is group 0000h: 0, 2
- *   octets 2 and 6  groups 0001h to 6FFFh: 0, 1, 2
- *   octets 3 and 7  groups 7000h to FFFFh: 0, 1, 2
+ *   octet  0        own line n, 01h to FFh
+ *   octets 1 and 5  code for individual addresses: 0, 1, 2
+ *   octets 2 and 6  code for broadcast, which is group 0000h: 0, 2
+ *   octets 3 and 7  code for groups 0001h to 6FFFh: 0, 1, 2
+ *   octets 4 and 8  code for groups 7000h to FFFFh: 0, 1, 2
+ *   octet  9        medium of the main side: 0 TP1, 1 IP; the sub side is TP1
  *
  * Code 0 is closed, 2 open. Code 1 for groups: forward if the group's bit in the filter table is
  * one. Code 1 for individual addresses: where n mod 16 is not 0, down (main to sub) if the
@@ -217,7 +220,7 @@ enum {
     KLUMDRAY_TP1 = 0,
     KLUMDRAY_IP = 1,
     KLUMDRAY_FRAME_SIZE = 263,
-    KLUMDRAY_CODES_SIZE = 8,
+    KLUMDRAY_SETTINGS_SIZE = 10,
     KLUMDRAY_TABLE_SIZE = 8192,
     KLUMDRAY_MEMORY_SIZE = 530,
     KLUMDRAY_ROOM_SIZE = 272
@@ -226,13 +229,11 @@ enum {
 /*
  * One coupler step: a frame received from one side is acknowledged or not, forwarded to the other
  * side or not, and remembered.
- *   line: the coupler's own, 01h to FFh
- *   codes: 8 octets, laid out as above
+ *   settings: 10 octets, laid out as above
  *   table: the filter table, 8,192 octets, or 0 octets where none of the four group codes is 1
  *   side: the receiving side, 0 main, 1 sub
- *   medium: of the main side, 0 TP1, 1 IP; the sub side is TP1
  *   memory: 530 octets, laid out as above
- *   octets: a TP1 frame, or a routing datagram where side is 0 and medium is 1
+ *   octets: a TP1 frame, or a routing datagram where side is 0 and the main side's medium is 1
  *   room: at least 272 octets
  * A frame with AT 0 to the coupler's own address is for itself and never forwarded, under any code.
  * Count 0 is never forwarded; counts 1 to 6 go on lowered by one, 7 stays. A forwarded frame keeps
@@ -241,17 +242,16 @@ enum {
  * side has the same source, destination and AT: it is not forwarded. A TP1 frame gets CCh exactly
  * if it is for the coupler itself or, repetition or not, its address, codes and count allow
  * forwarding. IP has neither memory nor acknowledgement.
- * Refusals, the first that applies: codes not 8 or memory not 530 octets long (14), line or a code
- * (15), the table's length (18), side or medium (14), room (13), then as klumdray_tp1_read or, from
- * IP, klumdray_routing_read. A refused step leaves room and memory as they were.
+ * Refusals, the first that applies: settings not 10 or memory not 530 octets long (14), line or a
+ * code (15), the table's length (18), side or medium (14), room (13), then as klumdray_tp1_read or,
+ * from IP, klumdray_routing_read. A refused step leaves room and memory as they were.
  * The answer is read by klumdray_number, klumdray_acknowledgement, klumdray_own and
  * klumdray_forwarded, each of them whatever the number is: a caller sends on either side what the
  * answer says, without asking first whether it is a refusal.
  */
-uint64_t klumdray_step(uint8_t line, const uint8_t *codes, size_t codes_length,
-                       const uint8_t *table, size_t table_length, uint8_t side, uint8_t medium,
-                       uint8_t *memory, size_t memory_length, const uint8_t *octets, size_t length,
-                       uint8_t *room, size_t room_length);
+uint64_t klumdray_step(const uint8_t *settings, size_t settings_length, const uint8_t *table,
+                       size_t table_length, uint8_t side, uint8_t *memory, size_t memory_length,
+                       const uint8_t *octets, size_t length, uint8_t *room, size_t room_length);
 
 /* The tracer's numbers and sizes. */
 enum {

@@ -25,9 +25,11 @@
 
 enum { LINE = 0x47, LEAK_GROUP = 0x1234 };
 
-/* Both directions: individual addresses by place, broadcast open, groups below 7000h by the filter
- * table, the others closed. */
-static const uint8_t codes[KLUMDRAY_CODES_SIZE] = {1, 2, 1, 0, 1, 2, 1, 0};
+/* Line; the codes main to sub, then sub to main; the medium of the main side. In both directions:
+ * individual addresses by place, broadcast open, groups below 7000h by the filter table, the others
+ * closed. */
+static const uint8_t settings[KLUMDRAY_SETTINGS_SIZE] = {LINE, 1, 2, 1, 0, 1, 2, 1, 0,
+                                                         KLUMDRAY_TP1};
 static uint8_t table[KLUMDRAY_TABLE_SIZE];
 
 /* What the coupler remembers between frames is lent to every step: the library keeps nothing. All
@@ -83,14 +85,13 @@ static void print_meaning(uint64_t answer, const uint8_t *octets)
                  klumdray_payload_length(answer));
 }
 
-/* A frame from the coupler's own line, its sub side; the main side is TP1 too. What the answer says
- * to send is sent, here printed, whatever its number is. Returns the number. */
+/* A frame from the coupler's own line, its sub side. What the answer says to send is sent, here
+ * printed, whatever its number is. Returns the number. */
 static uint8_t step(const char *name, const uint8_t *octets, size_t n)
 {
     uint8_t room[KLUMDRAY_ROOM_SIZE];
-    uint64_t answer = klumdray_step(LINE, codes, sizeof codes, table, sizeof table, KLUMDRAY_SUB,
-                                    KLUMDRAY_TP1, memory, sizeof memory, octets, n, room,
-                                    sizeof room);
+    uint64_t answer = klumdray_step(settings, sizeof settings, table, sizeof table, KLUMDRAY_SUB,
+                                    memory, sizeof memory, octets, n, room, sizeof room);
     print_octets(name, octets, n);
     print_number(answer);
     if (klumdray_acknowledgement(answer) != 0)

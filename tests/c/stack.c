@@ -20,9 +20,10 @@ static volatile uintptr_t lowest;
 
 static uint8_t payload[255], tp1[KLUMDRAY_FRAME_SIZE], cemi[300], datagram[300], room[800];
 static uint8_t memory[KLUMDRAY_MEMORY_SIZE], table[KLUMDRAY_TABLE_SIZE];
-static uint8_t site[COUPLERS * KLUMDRAY_RECORD_SIZE], codes[KLUMDRAY_CODES_SIZE];
+static uint8_t site[COUPLERS * KLUMDRAY_RECORD_SIZE];
+static uint8_t settings[KLUMDRAY_SETTINGS_SIZE] = {0x47, 1, 2, 1, 1, 1, 2, 1, 1, KLUMDRAY_TP1};
 static size_t tp1_length, cemi_length, datagram_length;
-static uint8_t side, medium, kind, start, line;
+static uint8_t side, kind, start, line;
 static uint64_t answer;
 
 static void nothing(void) {}
@@ -50,8 +51,8 @@ static void routing_write(void)
 
 static void step(void)
 {
-    int ip = side == KLUMDRAY_MAIN && medium == KLUMDRAY_IP;
-    answer = klumdray_step(0x47, codes, sizeof codes, table, sizeof table, side, medium, memory,
+    int ip = side == KLUMDRAY_MAIN && settings[9] == KLUMDRAY_IP;
+    answer = klumdray_step(settings, sizeof settings, table, sizeof table, side, memory,
                            sizeof memory, ip ? datagram : tp1, ip ? datagram_length : tp1_length,
                            room, sizeof room);
 }
@@ -112,13 +113,11 @@ static void tell(const char *name)
 static void prepare(void)
 {
     size_t i;
-    memset(codes, 1, sizeof codes);
-    codes[1] = codes[5] = 2;
     memset(table, 0xFF, sizeof table);
     for (i = 0; i < COUPLERS; i++) {
         uint8_t *record = site + i * KLUMDRAY_RECORD_SIZE;
         record[0] = 0x43, record[1] = 0x50, record[2] = (uint8_t)(i + 1);
-        memcpy(record + 3, codes, sizeof codes);
+        memcpy(record + 3, settings + 1, 8);
         record[11] = 0;
     }
     tp1_write();
@@ -135,7 +134,7 @@ static void prepare(void)
 static void steps(void)
 {
     for (side = 0; side < 2; side++)
-        for (medium = 0; medium < 2; medium++) {
+        for (settings[9] = 0; settings[9] < 2; settings[9]++) {
             tp1[2] ^= 1, tp1[tp1_length - 1] ^= 1;
             try_call(step);
             try_call(step);

@@ -243,30 +243,29 @@ static void parts_with_a_refusal(void)
     check("octets forwarded beside a number are read", klumdray_forwarded(answer) == 270);
 }
 
-/* A coupler's line, codes, memory and room. */
+/* A coupler's settings, memory and room. */
 struct coupler {
-    uint8_t line;
-    uint8_t codes[KLUMDRAY_CODES_SIZE];
+    uint8_t settings[KLUMDRAY_SETTINGS_SIZE];
     uint8_t memory[KLUMDRAY_MEMORY_SIZE];
     uint8_t room[KLUMDRAY_ROOM_SIZE];
 };
 
 /* A coupler whose eight codes are all the same, with nothing remembered. */
-static struct coupler coupler(uint8_t line, uint8_t code)
+static struct coupler coupler(uint8_t line, uint8_t code, uint8_t medium)
 {
     struct coupler c;
-    c.line = line;
-    memset(c.codes, code, sizeof c.codes);
+    c.settings[0] = line;
+    memset(c.settings + 1, code, 8);
+    c.settings[9] = medium;
     memset(c.memory, 0, sizeof c.memory);
     memset(c.room, 0x55, sizeof c.room);
     return c;
 }
 
 /* A step without a filter table. */
-static uint64_t step(struct coupler *c, uint8_t side, uint8_t medium, const uint8_t *octets,
-                     size_t n)
+static uint64_t step(struct coupler *c, uint8_t side, const uint8_t *octets, size_t n)
 {
-    return klumdray_step(c->line, c->codes, sizeof c->codes, NULL, 0, side, medium, c->memory,
+    return klumdray_step(c->settings, sizeof c->settings, NULL, 0, side, c->memory,
                          sizeof c->memory, octets, n, c->room, sizeof c->room);
 }
 
@@ -295,21 +294,21 @@ static uint64_t step_from_ip(struct coupler *c, uint8_t ctrl2)
     uint8_t datagram[sizeof P7];
     memcpy(datagram, P7, sizeof P7);
     datagram[9] = ctrl2;
-    return step(c, KLUMDRAY_MAIN, KLUMDRAY_IP, datagram, sizeof datagram);
+    return step(c, KLUMDRAY_MAIN, datagram, sizeof datagram);
 }
 
 static void steps_from_ip(void)
 {
     static const uint8_t p9[] = {0xBC, 0x00, 0x00, 0x12, 0x34, 0xF4,
                                  0x00, 0x80, 0x56, 0x78, 0x9A, 0xA5};
-    struct coupler c = coupler(0x11, 2);
+    struct coupler c = coupler(0x11, 2, KLUMDRAY_IP);
     uint64_t answer = step_from_ip(&c, 0xC0);
     check("P7 is accepted by a step", klumdray_number(answer) == 0);
     check("P7 gives P1", is_forwarded(&c, answer, P1, sizeof P1));
     check("nothing from IP is acknowledged", klumdray_acknowledgement(answer) == 0);
     check("P7 is not for the coupler itself", klumdray_own(answer) == 0);
     check("the step's other bits are 0", answer == (uint64_t)sizeof P1 << 32);
-    c = coupler(0x11, 2);
+    c = coupler(0x11, 2, KLUMDRAY_IP);
     check("P8 is not forwarded", step_from_ip(&c, 0x80) == 0);
     check("P8 leaves the room", untouched(c.room, sizeof c.room));
     check("P9 keeps count 7", is_forwarded(&c, step_from_ip(&c, 0xF0), p9, sizeof p9));
@@ -322,10 +321,10 @@ static void steps_from_tp1(void)
 {
     static const uint8_t onward[] = {0xB0, 0xAF, 0xFE, 0x00, 0x00, 0xD1, 0x01, 0x00, 0xCE};
     static const uint8_t repeated[] = {0x90, 0xAF, 0xFE, 0x00, 0x00, 0xE1, 0x01, 0x00, 0xDE};
-    struct coupler c = coupler(0xFF, 0);
+    struct coupler c = coupler(0xFF, 0, KLUMDRAY_TP1);
     uint64_t answer;
-    c.codes[1] = 2;
-    answer = step(&c, KLUMDRAY_MAIN, KLUMDRAY_TP1, P10, sizeof P10);
+    c.settings[2] = 2;
+    answer = step(&c, KLUMDRAY_MAIN, P10, sizeof P10);
     check("P10 is acknowledged", klumdray_acknowledgement(answer) == 0xCC);
     check("P10 is forwarded", is_forwarded(&c, answer, onward, sizeof onward));
     check("P10's size is remembered", klumdray_remembered_size(c.memory, KLUMDRAY_MAIN) == 9);
@@ -333,13 +332,13 @@ static void steps_from_tp1(void)
           memcmp(klumdray_remembered(c.memory, KLUMDRAY_MAIN), P10, sizeof P10) == 0);
     check("nothing of the other side is", klumdray_remembered_size(c.memory, KLUMDRAY_SUB) == 0);
     memset(c.room, 0x55, sizeof c.room);
-    answer = step(&c, KLUMDRAY_MAIN, KLUMDRAY_TP1, repeated, sizeof repeated);
+    answer = step(&c, KLUMDRAY_MAIN, repeated, sizeof repeated);
     check("a repetition is acknowledged", klumdray_acknowledgement(answer) == 0xCC);
     check("a repetition is not forwarded", klumdray_forwarded(answer) == 0);
     check("a repetition leaves the room", untouched(c.room, sizeof c.room));
     check("a repetition is remembered",
           memcmp(klumdray_remembered(c.memory, KLUMDRAY_MAIN), repeated, sizeof repeated) == 0);
-    answer = step(&c, KLUMDRAY_SUB, KLUMDRAY_TP1, repeated, sizeof repeated);
+    answer = step(&c, KLUMDRAY_SUB, repeated, sizeof repeated);
     check("from the other side it is closed", answer == 0);
     check("and remembered", klumdray_remembered_size(c.memory, KLUMDRAY_SUB) == sizeof repeated);
 }
@@ -348,29 +347,29 @@ static void steps_from_tp1(void)
 static void steps_with_odd_memories(void)
 {
     static const uint8_t repeated[] = {0x90, 0xAF, 0xFE, 0x00, 0x00, 0x60, 0x00, 0x5E};
-    struct coupler c = coupler(0x11, 2);
+    struct coupler c = coupler(0x11, 2, KLUMDRAY_TP1);
     memcpy(c.memory + 2, repeated, 3);
     c.memory[1] = 3;
     check("of a size of 3 the missing octets are 0",
-          step(&c, KLUMDRAY_MAIN, KLUMDRAY_TP1, repeated, sizeof repeated) == 0xCC00);
+          step(&c, KLUMDRAY_MAIN, repeated, sizeof repeated) == 0xCC00);
     c.memory[0] = 1;
     check("a size of 264 is none", klumdray_remembered_size(c.memory, KLUMDRAY_MAIN) == 0);
     check("and no frame is repeated",
-          klumdray_forwarded(step(&c, KLUMDRAY_MAIN, KLUMDRAY_TP1, repeated, 8)) == 8);
+          klumdray_forwarded(step(&c, KLUMDRAY_MAIN, repeated, 8)) == 8);
 }
 
 static void steps_for_itself_and_to_ip(void)
 {
     static const uint8_t own[] = {0xB0, 0xAF, 0xFE, 0x47, 0x00, 0x60, 0x00, 0x39};
     uint8_t datagram[sizeof P7];
-    struct coupler c = coupler(0x47, 2);
-    uint64_t answer = step(&c, KLUMDRAY_SUB, KLUMDRAY_IP, own, sizeof own);
+    struct coupler c = coupler(0x47, 2, KLUMDRAY_IP);
+    uint64_t answer = step(&c, KLUMDRAY_SUB, own, sizeof own);
     check("a frame for 4.7.0 is for coupler 4.7 itself", klumdray_own(answer) == 1);
     check("it is acknowledged", klumdray_acknowledgement(answer) == 0xCC);
     check("it is not forwarded", klumdray_forwarded(answer) == 0);
     memcpy(datagram, P7, sizeof P7);
     datagram[9] = 0xA0;
-    answer = step(&c, KLUMDRAY_SUB, KLUMDRAY_IP, P1, sizeof P1);
+    answer = step(&c, KLUMDRAY_SUB, P1, sizeof P1);
     check("P1 to IP is acknowledged", klumdray_acknowledgement(answer) == 0xCC);
     check("P1 to IP is a datagram", is_forwarded(&c, answer, datagram, sizeof datagram));
 }
@@ -378,58 +377,81 @@ static void steps_for_itself_and_to_ip(void)
 static void steps_with_a_table(void)
 {
     static uint8_t table[KLUMDRAY_TABLE_SIZE];
-    struct coupler c = coupler(0x11, 0);
+    struct coupler c = coupler(0x11, 0, KLUMDRAY_TP1);
     uint64_t answer;
-    c.codes[2] = 1;
+    c.settings[3] = 1;
     check("no filter table where code 1 asks for one is 18",
-          is_refused(step(&c, KLUMDRAY_MAIN, KLUMDRAY_TP1, P1, sizeof P1), 18));
+          is_refused(step(&c, KLUMDRAY_MAIN, P1, sizeof P1), 18));
     table[0x1234 / 8] = 1u << 0x1234 % 8;
-    answer = klumdray_step(c.line, c.codes, 8, table, sizeof table, KLUMDRAY_MAIN, KLUMDRAY_TP1,
+    answer = klumdray_step(c.settings, sizeof c.settings, table, sizeof table, KLUMDRAY_MAIN,
                            c.memory, sizeof c.memory, P1, sizeof P1, c.room, sizeof c.room);
     check("a group in the filter table is forwarded", klumdray_forwarded(answer) == sizeof P1);
     table[0x1234 / 8] ^= 0xFF;
-    answer = klumdray_step(c.line, c.codes, 8, table, sizeof table, KLUMDRAY_MAIN, KLUMDRAY_TP1,
+    answer = klumdray_step(c.settings, sizeof c.settings, table, sizeof table, KLUMDRAY_MAIN,
                            c.memory, sizeof c.memory, P1, sizeof P1, c.room, sizeof c.room);
     check("another group is not", klumdray_number(answer) == 0 && klumdray_forwarded(answer) == 0);
 }
 
 static void refused_blocks_and_rooms(void)
 {
-    struct coupler c = coupler(0x11, 2);
-    uint8_t *codes = c.codes, *memory = c.memory, *room = c.room;
-    uint64_t answer = klumdray_step(0x11, codes, 8, NULL, 0, 0, 0, NULL, 0, P1, 12, room, 272);
+    struct coupler c = coupler(0x11, 2, KLUMDRAY_TP1);
+    uint8_t *memory = c.memory, *room = c.room;
+    uint64_t answer = klumdray_step(c.settings, 10, NULL, 0, 0, NULL, 0, P1, 12, room, 272);
     check("a null memory is 14", is_refused(answer, 14));
-    answer = klumdray_step(0x11, NULL, 0, NULL, 0, 0, 0, memory, 530, P1, 12, room, 272);
-    check("null codes are 14", is_refused(answer, 14));
-    answer = klumdray_step(0x00, codes, 8, NULL, 0, 2, 2, NULL, 0, NULL, 0, NULL, 0);
-    check("a null memory is 14 before 15 and 13", is_refused(answer, 14));
-    answer = klumdray_step(0x11, codes, 8, NULL, 0, 0, 0, memory, 529, P1, 12, room, 272);
+    answer = klumdray_step(c.settings, 10, NULL, 0, 0, memory, 529, P1, 12, room, 272);
     check("a memory of 529 octets is 14", is_refused(answer, 14));
-    answer = klumdray_step(0x11, codes, 7, NULL, 0, 0, 0, memory, 530, P1, 12, room, 272);
-    check("7 codes are 14", is_refused(answer, 14));
-    answer = klumdray_step(0x11, codes, 8, NULL, 0, 0, 0, memory, 530, P1, 12, NULL, 0);
+    answer = klumdray_step(c.settings, 10, NULL, 0, 0, memory, 530, P1, 12, NULL, 0);
     check("a null room is 13", is_refused(answer, 13));
-    answer = klumdray_step(0x11, codes, 8, NULL, 0, 0, 0, memory, 530, P1, 12, room, 271);
+    answer = klumdray_step(c.settings, 10, NULL, 0, 0, memory, 530, P1, 12, room, 271);
     check("a room of 271 octets is 13", is_refused(answer, 13));
+    c.settings[0] = 0x00;
+    answer = klumdray_step(c.settings, 10, NULL, 0, 2, NULL, 0, NULL, 0, NULL, 0);
+    check("a null memory is 14 before 15 and 13", is_refused(answer, 14));
     check("their room is untouched", untouched(room, sizeof c.room));
     check("their memory is untouched", is_blank(memory));
 }
 
+/* Settings of another size than 10 are refused first of all. */
+static void refused_settings(void)
+{
+    uint8_t settings[KLUMDRAY_SETTINGS_SIZE + 1] = {0x11, 2, 2, 2, 2, 2, 2, 2, 2};
+    struct coupler c = coupler(0x11, 2, KLUMDRAY_TP1);
+    uint8_t *memory = c.memory, *room = c.room;
+    uint64_t answer = klumdray_step(NULL, 0, NULL, 0, 0, memory, 530, P1, 12, room, 272);
+    check("null settings are 14", is_refused(answer, 14));
+    answer = klumdray_step(settings, 9, NULL, 0, 0, memory, 530, P1, 12, room, 272);
+    check("settings of 9 octets are 14", is_refused(answer, 14));
+    answer = klumdray_step(settings, 11, NULL, 0, 0, memory, 530, P1, 12, room, 272);
+    check("settings of 11 octets are 14", is_refused(answer, 14));
+    settings[0] = 0x00;
+    answer = klumdray_step(settings, 9, P1, 12, 2, memory, 530, NULL, 0, NULL, 0);
+    check("settings of 9 octets are 14 before 15, 18, 13 and 1", is_refused(answer, 14));
+    answer = klumdray_step(settings, 11, P1, 12, 0, memory, 530, NULL, 0, NULL, 0);
+    check("so are settings of 11 octets", is_refused(answer, 14));
+    check("their room and memory are untouched",
+          untouched(room, sizeof c.room) && is_blank(memory));
+}
+
 static void refused_steps(void)
 {
-    struct coupler c = coupler(0x11, 2);
-    struct coupler closed = coupler(0x00, 3);
-    check("line 00h is 15", is_refused(step(&closed, 2, 2, NULL, 0), 15));
-    check("side 2 is 14", is_refused(step(&c, 2, KLUMDRAY_TP1, P1, sizeof P1), 14));
-    check("medium 2 is 14", is_refused(step(&c, KLUMDRAY_SUB, 2, P1, sizeof P1), 14));
-    check("no octets are 1", is_refused(step(&c, KLUMDRAY_SUB, KLUMDRAY_TP1, NULL, 0), 1));
+    struct coupler c = coupler(0x11, 2, KLUMDRAY_TP1);
+    struct coupler on_ip = coupler(0x11, 2, KLUMDRAY_IP);
+    struct coupler on_another = coupler(0x11, 2, 2);
+    struct coupler closed = coupler(0x00, 3, 2);
+    check("line 00h is 15", is_refused(step(&closed, 2, NULL, 0), 15));
+    check("side 2 is 14", is_refused(step(&c, 2, P1, sizeof P1), 14));
+    check("medium 2 is 14", is_refused(step(&on_another, KLUMDRAY_SUB, P1, sizeof P1), 14));
+    check("no octets are 1", is_refused(step(&c, KLUMDRAY_SUB, NULL, 0), 1));
     check("P1 without its check octet is 1",
-          is_refused(step(&c, KLUMDRAY_SUB, KLUMDRAY_TP1, P1, sizeof P1 - 1), 1));
-    check("P1 from IP is 10",
-          is_refused(step(&c, KLUMDRAY_MAIN, KLUMDRAY_IP, P1, sizeof P1), 10));
-    check("refused rooms are untouched", untouched(c.room, sizeof c.room) &&
-                                             untouched(closed.room, sizeof closed.room));
-    check("refused memories are untouched", is_blank(c.memory) && is_blank(closed.memory));
+          is_refused(step(&c, KLUMDRAY_SUB, P1, sizeof P1 - 1), 1));
+    check("P1 from IP is 10", is_refused(step(&on_ip, KLUMDRAY_MAIN, P1, sizeof P1), 10));
+    check("refused rooms are untouched",
+          untouched(c.room, sizeof c.room) && untouched(on_ip.room, sizeof on_ip.room) &&
+              untouched(on_another.room, sizeof on_another.room) &&
+              untouched(closed.room, sizeof closed.room));
+    check("refused memories are untouched", is_blank(c.memory) && is_blank(on_ip.memory) &&
+                                                is_blank(on_another.memory) &&
+                                                is_blank(closed.memory));
 }
 
 /* Frames that are acknowledged, forwarded or for the coupler itself as soon as their check octet is
@@ -438,21 +460,21 @@ static void damaged_frames(void)
 {
     uint8_t own_frame[] = {0xB0, 0xAF, 0xFE, 0x47, 0x00, 0x60, 0x00, 0x38};
     uint8_t p2[sizeof P1];
-    struct coupler c = coupler(0x47, 2);
+    struct coupler c = coupler(0x47, 2, KLUMDRAY_TP1);
     uint64_t answer;
     memcpy(p2, P1, sizeof P1);
     p2[11] = 0xE4;
-    check("a step with P2 is 6", is_refused(step(&c, KLUMDRAY_MAIN, KLUMDRAY_TP1, p2, 12), 6));
+    check("a step with P2 is 6", is_refused(step(&c, KLUMDRAY_MAIN, p2, 12), 6));
     check("so is one with a damaged frame for 4.7.0",
-          is_refused(step(&c, KLUMDRAY_SUB, KLUMDRAY_TP1, own_frame, sizeof own_frame), 6));
+          is_refused(step(&c, KLUMDRAY_SUB, own_frame, sizeof own_frame), 6));
     check("damaged frames leave the room", untouched(c.room, sizeof c.room));
     check("damaged frames are not remembered", is_blank(c.memory));
     own_frame[7] = 0x39;
-    answer = step(&c, KLUMDRAY_SUB, KLUMDRAY_TP1, own_frame, sizeof own_frame);
+    answer = step(&c, KLUMDRAY_SUB, own_frame, sizeof own_frame);
     check("the frame for 4.7.0 with its check octet is acknowledged and own",
           klumdray_number(answer) == 0 && klumdray_acknowledgement(answer) == 0xCC &&
               klumdray_own(answer) == 1 && klumdray_forwarded(answer) == 0);
-    answer = step(&c, KLUMDRAY_MAIN, KLUMDRAY_TP1, P1, sizeof P1);
+    answer = step(&c, KLUMDRAY_MAIN, P1, sizeof P1);
     check("P1 is acknowledged and forwarded",
           klumdray_number(answer) == 0 && klumdray_acknowledgement(answer) == 0xCC &&
               klumdray_own(answer) == 0 && klumdray_forwarded(answer) == sizeof P1);
@@ -665,6 +687,7 @@ int main(void)
     steps_with_a_table();
     parts_with_a_refusal();
     refused_blocks_and_rooms();
+    refused_settings();
     refused_steps();
     damaged_frames();
     traces_of_groups();

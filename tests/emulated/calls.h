@@ -36,12 +36,11 @@ CALL(uint64_t, klumdray_routing_write,
       NUMBER(4, priority), NUMBER(5, source), NUMBER(6, group), NUMBER(7, destination),
       NUMBER(8, count), OCTETS(9, payload, n), ROOM(10, room, m)))
 CALL(uint64_t, klumdray_step,
-     (uint8_t line, const uint8_t *codes, size_t codes_length, const uint8_t *table,
-      size_t table_length, uint8_t side, uint8_t medium, uint8_t *memory, size_t memory_length,
-      const uint8_t *octets, size_t length, uint8_t *room, size_t room_length),
-     (NUMBER(0, line), OCTETS(1, codes, codes_length), OCTETS(2, table, table_length),
-      NUMBER(3, side), NUMBER(4, medium), ROOM(5, memory, memory_length), OCTETS(6, octets, length),
-      ROOM(7, room, room_length)))
+     (const uint8_t *settings, size_t settings_length, const uint8_t *table, size_t table_length,
+      uint8_t side, uint8_t *memory, size_t memory_length, const uint8_t *octets, size_t length,
+      uint8_t *room, size_t room_length),
+     (OCTETS(0, settings, settings_length), OCTETS(1, table, table_length), NUMBER(2, side),
+      ROOM(3, memory, memory_length), OCTETS(4, octets, length), ROOM(5, room, room_length)))
 CALL(uint64_t, klumdray_trace,
      (uint8_t start, uint8_t kind, uint16_t destination, uint8_t count, const uint8_t *site,
       size_t site_length, const uint8_t *project, size_t project_length, const uint8_t *own,

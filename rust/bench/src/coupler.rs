@@ -62,12 +62,11 @@ pub fn rows() {
 }
 
 fn step_row(name: &str, coupler: &Coupler<'_>, [side, medium]: [u8; 2], octets: &[u8]) {
+    let [[d0, d1, d2, d3], [u0, u1, u2, u3]] = coupler.codes;
     let setting = Setting {
-        line: coupler.line,
-        codes: coupler.codes.as_flattened(),
+        settings: &[coupler.line, d0, d1, d2, d3, u0, u1, u2, u3, medium],
         table: coupler.table,
         side,
-        medium,
     };
     let (mut block, mut memory) = ([0; 530], Memory::default());
     let (mut proved_room, mut reference_room) = ([0; ROOM_SIZE], [0; ROOM_SIZE]);

@@ -9,6 +9,9 @@ use crate::{raw, tp1, Refusal};
 /// The octets of a filter table. The bit of group g is bit g mod 8 of octet g div 8.
 pub const TABLE_SIZE: usize = 8192;
 
+/// The octets of a block of settings: the own line, four codes each way, the main side's medium.
+pub const SETTINGS_SIZE: usize = 10;
+
 /// The octets of a memory: for each side two of size and the longest frame's.
 pub const MEMORY_SIZE: usize = 2 * (2 + tp1::FRAME_SIZE);
 
@@ -76,8 +79,20 @@ pub struct Settings<'a> {
     /// (0, 1, 2). Code 0 is closed, 2 open; 1 asks the filter table for groups and the coupler's
     /// place for individual addresses.
     pub codes: [[u8; 4]; 2],
+    /// The medium of its main side.
+    pub medium: Medium,
     /// The filter table: 8,192 octets, or none where no group code is 1.
     pub table: &'a [u8],
+}
+
+impl Settings<'_> {
+    /// The settings as the library is lent them, apart from the filter table.
+    #[inline]
+    fn block(&self) -> [u8; SETTINGS_SIZE] {
+        let [[d0, d1, d2, d3], [u0, u1, u2, u3]] = self.codes;
+        let medium = self.medium.number();
+        [self.line, d0, d1, d2, d3, u0, u1, u2, u3, medium]
+    }
 }
 
 /// What a coupler remembers between frames: the last accepted frame of each TP1 side.
@@ -101,10 +116,10 @@ impl Memory {
     ///
     /// ```
     /// use klumdray::coupler::{step, Medium, Memory, Settings, Side, ROOM_SIZE};
-    /// let closed = Settings { line: 0x11, codes: [[0; 4]; 2], table: &[] };
+    /// let closed = Settings { line: 0x11, codes: [[0; 4]; 2], medium: Medium::Ip, table: &[] };
     /// let octets = [0xb0, 0xaf, 0xfe, 0x00, 0x00, 0xe1, 0x01, 0x00, 0xfe];
     /// let (mut memory, mut room) = (Memory::new(), [0; ROOM_SIZE]);
-    /// let outcome = step(&closed, Side::Sub, Medium::Ip, &mut memory, &octets, &mut room);
+    /// let outcome = step(&closed, Side::Sub, &mut memory, &octets, &mut room);
     /// assert_eq!(outcome.refusal, None);
     /// assert_eq!(memory.remembered(Side::Sub), Some(&octets[..]));
     /// assert_eq!(memory.remembered(Side::Main), None);
@@ -183,8 +198,8 @@ impl<'a> Outcome<'a> {
     /// use klumdray::coupler::{step, Medium, Memory, Outcome, Settings, Side, ROOM_SIZE};
     /// use klumdray::Refusal;
     /// fn octets_sent<'a>(octets: &[u8], room: &'a mut [u8]) -> Result<usize, Outcome<'a>> {
-    ///     let open = Settings { line: 0x11, codes: [[2; 4]; 2], table: &[] };
-    ///     let outcome = step(&open, Side::Sub, Medium::Tp1, &mut Memory::new(), octets, room);
+    ///     let open = Settings { line: 0x11, codes: [[2; 4]; 2], medium: Medium::Tp1, table: &[] };
+    ///     let outcome = step(&open, Side::Sub, &mut Memory::new(), octets, room);
     ///     Ok(outcome.accepted()?.forwarded.len())
     /// }
     /// let octets = [0xb0, 0xaf, 0xfe, 0x00, 0x00, 0xe1, 0x01, 0x00, 0xfe];
@@ -211,22 +226,24 @@ impl<'a> Outcome<'a> {
 /// ```
 /// use klumdray::coupler::{step, Acknowledgement, Medium, Memory, Settings, Side, ROOM_SIZE};
 /// use klumdray::Refusal;
-/// let settings = Settings { line: 0xff, codes: [[0, 2, 0, 0], [0; 4]], table: &[] };
+/// let settings = Settings {
+///     line: 0xff, codes: [[0, 2, 0, 0], [0; 4]], medium: Medium::Tp1, table: &[],
+/// };
 /// let (mut memory, mut room) = (Memory::new(), [0; ROOM_SIZE]);
 ///
 /// let octets = [0xb0, 0xaf, 0xfe, 0x00, 0x00, 0xe1, 0x01, 0x00, 0xfe];
-/// let outcome = step(&settings, Side::Main, Medium::Tp1, &mut memory, &octets, &mut room);
+/// let outcome = step(&settings, Side::Main, &mut memory, &octets, &mut room);
 /// assert_eq!(outcome.refusal, None);
 /// assert_eq!(outcome.acknowledgement, Some(Acknowledgement::Acknowledged));
 /// assert!(!outcome.own);
 /// assert_eq!(outcome.forwarded, [0xb0, 0xaf, 0xfe, 0x00, 0x00, 0xd1, 0x01, 0x00, 0xce]);
 ///
 /// let repeated = [0x90, 0xaf, 0xfe, 0x00, 0x00, 0xe1, 0x01, 0x00, 0xde];
-/// let outcome = step(&settings, Side::Main, Medium::Tp1, &mut memory, &repeated, &mut room);
+/// let outcome = step(&settings, Side::Main, &mut memory, &repeated, &mut room);
 /// assert_eq!(outcome.acknowledgement, Some(Acknowledgement::Acknowledged));
 /// assert!(outcome.forwarded.is_empty());
 ///
-/// let outcome = step(&settings, Side::Sub, Medium::Tp1, &mut memory, &[0xcc], &mut room);
+/// let outcome = step(&settings, Side::Sub, &mut memory, &[0xcc], &mut room);
 /// assert_eq!(outcome.refusal, Some(Refusal::ANOTHER_KIND));
 /// assert_eq!(outcome.acknowledgement, None);
 /// assert!(!outcome.own && outcome.forwarded.is_empty());
@@ -235,17 +252,14 @@ impl<'a> Outcome<'a> {
 pub fn step<'a>(
     settings: &Settings<'_>,
     side: Side,
-    medium: Medium,
     memory: &mut Memory,
     octets: &[u8],
     room: &'a mut [u8],
 ) -> Outcome<'a> {
     let setting = raw::Setting {
-        line: settings.line,
-        codes: settings.codes.as_flattened(),
+        settings: &settings.block(),
         table: settings.table,
         side: side.number(),
-        medium: medium.number(),
     };
     let answer = Step(raw::step(&setting, &mut memory.0, octets, room));
     Outcome::answered(answer, room)

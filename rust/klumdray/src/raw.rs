@@ -22,19 +22,16 @@ pub struct Numbers {
     pub count: u8,
 }
 
-/// The numbers and octets that set a coupler for one step; one outside its range is refused.
+/// The octets and the number that set a coupler for one step; what is outside its range is refused.
 #[derive(Clone, Copy, Debug, PartialEq, Eq)]
 pub struct Setting<'a> {
-    /// The coupler's own line, 01h to FFh.
-    pub line: u8,
-    /// Four codes for main to sub, then four for sub to main.
-    pub codes: &'a [u8],
+    /// A block of 10 octets: the coupler's own line, 01h to FFh, four codes for main to sub, four
+    /// for sub to main, the medium of the main side, 0 TP1, 1 IP.
+    pub settings: &'a [u8],
     /// The filter table: 8,192 octets, or none where no group code is 1.
     pub table: &'a [u8],
     /// The receiving side: 0 main, 1 sub.
     pub side: u8,
-    /// The medium of the main side: 0 TP1, 1 IP.
-    pub medium: u8,
 }
 
 /// The numbers of a query; one outside its range is refused.
@@ -82,10 +79,9 @@ extern "C" {
                               first_sending: u8, priority: u8, source: u16,
                               group: u8, destination: u16, count: u8,
                               payload: *const u8, n: usize, room: *mut u8, m: usize) -> u64;
-    fn klumdray_step(line: u8, codes: *const u8, codes_length: usize,
-                     table: *const u8, table_length: usize, side: u8, medium: u8,
-                     memory: *mut u8, memory_length: usize, octets: *const u8, length: usize,
-                     room: *mut u8, room_length: usize) -> u64;
+    fn klumdray_step(settings: *const u8, settings_length: usize, table: *const u8,
+                     table_length: usize, side: u8, memory: *mut u8, memory_length: usize,
+                     octets: *const u8, length: usize, room: *mut u8, room_length: usize) -> u64;
     fn klumdray_trace(start: u8, kind: u8, destination: u16, count: u8,
                       site: *const u8, site_length: usize, project: *const u8,
                       project_length: usize, own: *const u8, own_length: usize,
@@ -262,31 +258,30 @@ pub fn routing_write(
 /// is. The memory is a block of 530 octets, all zero at the start.
 ///
 /// ```
-/// let setting = klumdray::raw::Setting {
-///     line: 0xff, codes: &[0, 2, 0, 0, 0, 2, 0, 0], table: &[], side: 0, medium: 0,
-/// };
+/// let settings = [0xff, 0, 2, 0, 0, 0, 2, 0, 0, 0];
+/// let setting = klumdray::raw::Setting { settings: &settings, table: &[], side: 0 };
 /// let octets = [0xb0, 0xaf, 0xfe, 0x00, 0x00, 0xe1, 0x01, 0x00, 0xfe];
 /// let (mut memory, mut room) = ([0; 530], [0; 272]);
 /// let answer = klumdray::raw::step(&setting, &mut memory, &octets, &mut room);
 /// assert_eq!(answer, 9 << 32 | 0xcc << 8);
 /// assert_eq!(memory[..11], [0, 9, 0xb0, 0xaf, 0xfe, 0x00, 0x00, 0xe1, 0x01, 0x00, 0xfe]);
 ///
+/// let shorter = klumdray::raw::Setting { settings: &settings[..9], ..setting };
+/// assert_eq!(klumdray::raw::step(&shorter, &mut memory, &octets, &mut room), 14);
 /// assert_eq!(klumdray::raw::step(&setting, &mut [], &octets, &mut room), 14);
 /// assert_eq!(klumdray::raw::step(&setting, &mut memory, &octets, &mut room[1..]), 13);
 /// ```
 #[inline]
 pub fn step(setting: &Setting<'_>, memory: &mut [u8], octets: &[u8], room: &mut [u8]) -> u64 {
-    // SAFETY: the library reads codes, table and octets and writes memory and room within the
+    // SAFETY: the library reads settings, table and octets and writes memory and room within the
     // lengths lent, which Rust's borrows keep apart, and keeps none of them.
     unsafe {
         klumdray_step(
-            setting.line,
-            setting.codes.as_ptr(),
-            setting.codes.len(),
+            setting.settings.as_ptr(),
+            setting.settings.len(),
             setting.table.as_ptr(),
             setting.table.len(),
             setting.side,
-            setting.medium,
             memory.as_mut_ptr(),
             memory.len(),
             octets.as_ptr(),

@@ -10,8 +10,8 @@ mod traffic;
 #[path = "support/wrong_couplers.rs"]
 mod wrong_couplers;
 
-use couplers::{library_step, packed, put_frame, reference_step, Comparison, Lent, Stepper};
-use couplers::{LARGEST_ROOM, MEMORY};
+use couplers::{library_step, packed, put_frame, reference_step, settings, Comparison, Lent};
+use couplers::{Stepper, LARGEST_ROOM, MEMORY};
 use generator::{seed, Generator};
 use klumdray::coupler::{self, Medium, Memory, Settings, Side};
 use klumdray::raw::Setting;
@@ -102,20 +102,24 @@ fn bindings() -> Box<Stepper> {
 /// By the bindings, wherever their types have what is lent, and with their own memory, whose
 /// frames are put into the block.
 fn bindings_step(memory: &mut Memory, lent: &mut Lent<'_>) -> u64 {
-    let Setting { side, medium, .. } = lent.setting;
-    let (Some(Coupler { line, codes, table }), MEMORY, 0..=1, 0..=1) =
-        (lent.coupler(), lent.memory.len(), side, medium)
+    let side = lent.setting.side;
+    let (Some((Coupler { line, codes, table }, medium @ 0..=1)), MEMORY, 0..=1) =
+        (lent.coupler(), lent.memory.len(), side)
     else {
         return library_step(lent);
     };
     if lent.memory.iter().all(|&octet| octet == 0) {
         *memory = Memory::new();
     }
-    let settings = Settings { line, codes, table };
+    let settings = Settings {
+        line,
+        codes,
+        medium: [Medium::Tp1, Medium::Ip][usize::from(medium)],
+        table,
+    };
     let side = [Side::Main, Side::Sub][usize::from(side)];
-    let medium = [Medium::Tp1, Medium::Ip][usize::from(medium)];
     let front = lent.room.as_ptr();
-    let outcome = coupler::step(&settings, side, medium, memory, lent.octets, lent.room);
+    let outcome = coupler::step(&settings, side, memory, lent.octets, lent.room);
     assert_eq!(outcome.forwarded.as_ptr(), front);
     let answer = packed(Outcome {
         number: outcome.refusal.map_or(0, Refusal::number),
@@ -151,13 +155,12 @@ fn frame(group: bool, destination: u16) -> [u8; 8] {
 fn assert_passes(coupler: &Coupler<'_>, group: bool, destinations: &[u16]) -> u64 {
     use reference::coupler::Side;
     let (mut memory, mut room, mut passed) = ([0; MEMORY], [0; LARGEST_ROOM], 0);
+    let settings = settings(coupler.line, coupler.codes, 0);
     for (number, side) in [(0, Side::Main), (1, Side::Sub)] {
         let setting = Setting {
-            line: coupler.line,
-            codes: coupler.codes.as_flattened(),
+            settings: &settings,
             table: coupler.table,
             side: number,
-            medium: 0,
         };
         for &destination in destinations {
             let octets = frame(group, destination);

@@ -97,6 +97,7 @@ fn the_sizes_are_the_headers() {
     let sizes = [
         ("FRAME", tp1::FRAME_SIZE),
         ("TABLE", coupler::TABLE_SIZE),
+        ("SETTINGS", coupler::SETTINGS_SIZE),
         ("MEMORY", coupler::MEMORY_SIZE),
         ("ROOM", coupler::ROOM_SIZE),
         ("RECORD", tracer::RECORD_SIZE),

@@ -125,16 +125,16 @@ mod by_bindings {
         let settings = Settings {
             line: setting.line,
             codes: setting.codes,
+            medium: [Medium::Tp1, Medium::Ip][usize::from(setting.medium)],
             table: &setting.table,
         };
         let side = [Side::Main, Side::Sub][usize::from(setting.side)];
-        let medium = [Medium::Tp1, Medium::Ip][usize::from(setting.medium)];
         let (mut memory, mut room) = (Memory::new(), [0; ROOM]);
         let (last, before) = frames.split_last().expect("a frame");
         for octets in before {
-            let _ = coupler::step(&settings, side, medium, &mut memory, octets, &mut room);
+            let _ = coupler::step(&settings, side, &mut memory, octets, &mut room);
         }
-        let outcome = coupler::step(&settings, side, medium, &mut memory, last, &mut room);
+        let outcome = coupler::step(&settings, side, &mut memory, last, &mut room);
         let number = outcome.refusal.map_or(0, Refusal::number);
         let acknowledgement = outcome.acknowledgement.map(Acknowledgement::octet);
         stepped(number, acknowledgement, outcome.own, outcome.forwarded)

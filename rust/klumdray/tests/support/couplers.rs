@@ -5,6 +5,13 @@ use klumdray::raw::Setting;
 use reference::coupler::{Acknowledgement, Coupler, Memory, Outcome, Remembered, LARGEST_FRAME};
 use reference::{Format, Given, Meaning};
 use std::fmt;
+use std::ops::Range;
+
+/// The octets of a block of settings, and what stands where in it: line, codes, main medium.
+pub const SETTINGS: usize = 10;
+pub const LINE: usize = 0;
+pub const CODES: Range<usize> = 1..9;
+pub const MEDIUM: usize = 9;
 
 pub const MEMORY: usize = 530;
 const PART: usize = MEMORY / 2;
@@ -28,16 +35,16 @@ pub fn library_step(lent: &mut Lent<'_>) -> u64 {
     klumdray::raw::step(&lent.setting, lent.memory, lent.octets, lent.room)
 }
 
-/// The reference behind the library's surface, which adds the block and a refusal of its own.
+/// The reference behind the library's surface, which adds the blocks and a refusal of their own.
 pub fn reference_step(lent: &mut Lent<'_>) -> u64 {
-    let (Some(coupler), MEMORY) = (lent.coupler(), lent.memory.len()) else {
+    let (Some((coupler, medium)), MEMORY) = (lent.coupler(), lent.memory.len()) else {
         return packed(Outcome::refused(14));
     };
     let mut memory = Memory {
         main: part(lent.memory, 0),
         sub: part(lent.memory, 1),
     };
-    let Setting { side, medium, .. } = lent.setting;
+    let side = lent.setting.side;
     let outcome =
         reference::coupler::step(&coupler, side, medium, &mut memory, lent.octets, lent.room);
     put_part(lent.memory, 0, &memory.main);
@@ -45,17 +52,31 @@ pub fn reference_step(lent: &mut Lent<'_>) -> u64 {
     packed(outcome)
 }
 
+/// A block of settings.
+pub fn settings(line: u8, codes: [[u8; 4]; 2], medium: u8) -> [u8; SETTINGS] {
+    let mut settings = [0; SETTINGS];
+    settings[LINE] = line;
+    settings[CODES].copy_from_slice(codes.as_flattened());
+    settings[MEDIUM] = medium;
+    settings
+}
+
 impl<'a> Lent<'a> {
-    /// None where there are not eight codes.
-    pub fn coupler(&self) -> Option<Coupler<'a>> {
-        let &[a, b, c, d, e, f, g, h] = self.setting.codes else {
+    /// The coupler and its main medium's number; none where the settings are not ten octets.
+    pub fn coupler(&self) -> Option<(Coupler<'a>, u8)> {
+        let &[line, d0, d1, d2, d3, u0, u1, u2, u3, medium] = self.setting.settings else {
             return None;
         };
-        Some(Coupler {
-            line: self.setting.line,
-            codes: [[a, b, c, d], [e, f, g, h]],
+        let coupler = Coupler {
+            line,
+            codes: [[d0, d1, d2, d3], [u0, u1, u2, u3]],
             table: self.setting.table,
-        })
+        };
+        Some((coupler, medium))
+    }
+
+    pub fn medium(&self) -> Option<u8> {
+        medium(&self.setting)
     }
 
     pub fn is_from_ip(&self) -> bool {
@@ -67,9 +88,13 @@ impl<'a> Lent<'a> {
     }
 }
 
+fn medium(setting: &Setting<'_>) -> Option<u8> {
+    setting.settings.get(MEDIUM).copied()
+}
+
 /// Whether the octets are to be a routing datagram.
 pub fn is_from_ip(setting: &Setting<'_>) -> bool {
-    (setting.side, setting.medium) == (0, 1)
+    (setting.side, medium(setting)) == (0, Some(1))
 }
 
 /// Meaning and payload of octets that the reader of that side accepts.
@@ -159,7 +184,7 @@ const KINDS: [&str; 9] = [
 fn kind(setting: &Setting<'_>, answer: u64) -> usize {
     let from_ip = usize::from(is_from_ip(setting));
     if forwarded(answer) > 0 {
-        usize::from(setting.side) + 2 * usize::from(setting.medium)
+        usize::from(setting.side) + 2 * usize::from(setting.settings[MEDIUM])
     } else if is_own(answer) {
         6 + from_ip
     } else if is_repetition(answer) {
@@ -201,7 +226,7 @@ impl Counts {
         self.lengths[usize::from(given(&meaning).extended)][payload.len()] += 1;
         if !is_own(answer) && !is_repetition(answer) && meaning.count > 0 {
             let place = usize::from(setting.side) * 4 + class(&meaning);
-            let code = usize::from(setting.codes[place]);
+            let code = usize::from(setting.settings[CODES][place]);
             self.codes[place][code][usize::from(forwarded(answer) > 0)] += 1;
         }
     }
@@ -326,16 +351,14 @@ fn difference(found: &[u8], expected: &[u8]) -> Option<String> {
 /// What was asked, the filter table by its size alone.
 fn asked(setting: &Setting<'_>, memory: usize, octets: &[u8], room: usize) -> String {
     let Setting {
-        line,
-        codes,
+        settings,
         table,
         side,
-        medium,
     } = setting;
     let table = table.len();
     format!(
-        "line {line:02x} codes {codes:?} side {side} medium {medium}, table of {table}, \
-         memory of {memory}, room of {room}, octets {octets:02x?}"
+        "settings {settings:02x?} side {side}, table of {table}, memory of {memory}, \
+         room of {room}, octets {octets:02x?}"
     )
 }
 

@@ -1,7 +1,7 @@
 //! Series of steps from a seed: settings kept for a series, frames from a few addresses, so that
 //! repetitions come about, and now and then something wrong in any of them.
 
-use crate::couplers::{is_from_ip, MEMORY};
+use crate::couplers::{is_from_ip, settings, CODES, LINE, MEDIUM, MEMORY, SETTINGS};
 use crate::generator::Generator;
 use klumdray::raw::Setting;
 use reference::Given;
@@ -11,11 +11,10 @@ const TABLE: usize = 8192;
 /// AT and destination.
 type Address = (u8, u16);
 
-/// One step of a series, apart from its settings.
+/// One step of a series, apart from its filter table.
 pub struct Step {
+    pub settings: Vec<u8>,
     pub side: u8,
-    pub medium: u8,
-    pub codes: usize,
     pub memory: usize,
     pub room: usize,
     pub octets: Vec<u8>,
@@ -23,12 +22,9 @@ pub struct Step {
 
 pub struct Series {
     line: u8,
-    /// The coupler's own line, or 00h.
-    line_lent: u8,
-    /// Eight codes and one octet more.
-    codes: [u8; 9],
+    /// With the coupler's own line, or 00h.
+    settings: [u8; SETTINGS],
     table: Vec<u8>,
-    medium: u8,
     sources: [u16; 2],
     addresses: [Address; 4],
     /// The numbers and payload of the frame before.
@@ -42,10 +38,8 @@ impl Series {
         let addresses = [0; 4].map(|_| some_address(generator, line));
         let mut series = Series {
             line,
-            line_lent: line,
-            codes: [0; 9],
+            settings: [0; SETTINGS],
             table: Vec::new(),
-            medium: 0,
             sources,
             addresses,
             previous: (some_numbers(generator, sources[0], addresses[0]), vec![0]),
@@ -57,18 +51,16 @@ impl Series {
     /// Other settings of the same coupler: codes, filter table, medium. In one series of eight
     /// something may be wrong with them.
     pub fn set(&mut self, generator: &mut Generator) {
-        self.line_lent = self.line;
-        self.medium = generator.below(2) as u8;
-        self.codes = [0; 9].map(|_| generator.below(3) as u8);
-        for broadcast in [1, 5] {
-            self.codes[broadcast] &= 2;
-        }
+        let medium = generator.below(2) as u8;
+        let mut codes = [[0; 4]; 2].map(|row| row.map(|_: u8| generator.below(3) as u8));
         let length = if generator.below(6) == 0 { 0 } else { TABLE };
-        if length == 0 {
-            for group in [2, 3, 6, 7] {
-                self.codes[group] &= 2;
+        for [_, broadcast, groups @ ..] in &mut codes {
+            *broadcast &= 2;
+            if length == 0 {
+                *groups = groups.map(|code| code & 2);
             }
         }
+        self.settings = settings(self.line, codes, medium);
         self.table = some_table(generator, length, &self.addresses);
         if generator.below(8) == 0 {
             self.spoil(generator);
@@ -77,11 +69,11 @@ impl Series {
 
     fn spoil(&mut self, generator: &mut Generator) {
         if generator.below(3) == 0 {
-            self.line_lent = 0;
+            self.settings[LINE] = 0;
         }
         if generator.below(3) == 0 {
             let place = generator.below(8) as usize;
-            self.codes[place] = match generator.below(3) {
+            self.settings[CODES][place] = match generator.below(3) {
                 0 => 1,
                 1 => 3,
                 _ => generator.octet(),
@@ -93,21 +85,18 @@ impl Series {
         }
     }
 
-    pub fn setting<'a>(&'a self, step: &Step) -> Setting<'a> {
+    pub fn setting<'a>(&'a self, step: &'a Step) -> Setting<'a> {
         Setting {
-            line: self.line_lent,
-            codes: &self.codes[..step.codes],
+            settings: &step.settings,
             table: &self.table,
             side: step.side,
-            medium: step.medium,
         }
     }
 
     pub fn step(&mut self, generator: &mut Generator) -> Step {
         let mut step = Step {
+            settings: self.settings.to_vec(),
             side: generator.below(2) as u8,
-            medium: self.medium,
-            codes: 8,
             memory: MEMORY,
             room: one_of(generator, &[272, 300]),
             octets: Vec::new(),
@@ -302,7 +291,7 @@ fn spoil_lent(generator: &mut Generator, step: &mut Step) {
         step.side = if some(2) { 2 } else { 255 };
     }
     if some(4) {
-        step.medium = if some(2) { 2 } else { 255 };
+        step.settings[MEDIUM] = if some(2) { 2 } else { 255 };
     }
     if some(3) {
         step.room = if some(2) { 0 } else { 271 };
@@ -314,9 +303,10 @@ fn spoil_lent(generator: &mut Generator, step: &mut Step) {
         step.memory = 0;
     }
     if some(8) {
-        step.codes = if some(2) { 7 } else { 9 };
+        let size = if some(2) { SETTINGS - 1 } else { SETTINGS + 1 };
+        step.settings.resize(size, 0);
     }
     if some(16) {
-        step.codes = 0;
+        step.settings.clear();
     }
 }

@@ -1,7 +1,8 @@
 //! References with one rule of the coupler turned round.
 
 use crate::couplers::{
-    forwarded, given, is_own, is_repetition, part, put_part, reference_step, Lent, Stepper, MEMORY,
+    forwarded, given, is_own, is_repetition, part, put_part, reference_step, Lent, Stepper, CODES,
+    LINE, MEDIUM, MEMORY, SETTINGS,
 };
 use klumdray::raw::Setting;
 use reference::coupler::{lowered, Side, LARGEST_FRAME, ROOM_SIZE, TABLE_SIZE};
@@ -21,8 +22,8 @@ fn forward(lent: &mut Lent<'_>, answer: u64, change: impl Fn(Meaning) -> Meaning
         count: lowered(meaning.count).unwrap_or(0),
         ..meaning
     });
-    let size = match (lent.setting.side, lent.setting.medium) {
-        (1, 1) => reference::routing::write(0x29, 0, &given(&onward), payload, lent.room),
+    let size = match (lent.setting.side, lent.medium()) {
+        (1, Some(1)) => reference::routing::write(0x29, 0, &given(&onward), payload, lent.room),
         _ => reference::tp1::write(&given(&onward), payload, lent.room),
     };
     let acknowledgement = if lent.is_from_ip() {
@@ -48,9 +49,15 @@ fn with_setting(lent: &mut Lent<'_>, setting: Setting<'_>) -> u64 {
     })
 }
 
-fn with_codes(lent: &mut Lent<'_>, codes: &[u8]) -> u64 {
+fn with_settings(lent: &mut Lent<'_>, settings: &[u8]) -> u64 {
     let setting = lent.setting;
-    with_setting(lent, Setting { codes, ..setting })
+    with_setting(
+        lent,
+        Setting {
+            settings,
+            ..setting
+        },
+    )
 }
 
 fn with_table(lent: &mut Lent<'_>, table: &[u8]) -> u64 {
@@ -60,9 +67,9 @@ fn with_table(lent: &mut Lent<'_>, table: &[u8]) -> u64 {
 
 /// The reference with another code for one class in the receiving side's row.
 fn with_code(lent: &mut Lent<'_>, class: usize, code: u8) -> u64 {
-    let mut codes = lent.setting.codes.to_vec();
-    codes[usize::from(lent.setting.side) * 4 + class] = code;
-    with_codes(lent, &codes)
+    let mut settings = lent.setting.settings.to_vec();
+    settings[CODES][usize::from(lent.setting.side) * 4 + class] = code;
+    with_settings(lent, &settings)
 }
 
 /// The meaning of a frame in a step that draws no refusal.
@@ -79,13 +86,13 @@ fn accepted(lent: &mut Lent<'_>) -> Option<Meaning> {
 
 /// The code of one class in the receiving side's row of an accepted step.
 fn code(lent: &Lent<'_>, class: usize) -> u8 {
-    lent.setting.codes[usize::from(lent.setting.side) * 4 + class]
+    lent.setting.settings[CODES][usize::from(lent.setting.side) * 4 + class]
 }
 
 /// Whether address and codes alone let a frame of an accepted step pass.
 fn may_pass(lent: &Lent<'_>, meaning: &Meaning) -> bool {
     let side = [Side::Main, Side::Sub][usize::from(lent.setting.side)];
-    let coupler = lent.coupler().expect("eight codes");
+    let (coupler, _) = lent.coupler().expect("ten octets of settings");
     coupler.may_pass(side, meaning.group, meaning.destination)
 }
 
@@ -115,7 +122,7 @@ fn accepted_first(lent: &mut Lent<'_>) -> Option<Meaning> {
 
 fn copies_check_octet(lent: &mut Lent<'_>) -> u64 {
     let answer = reference_step(lent);
-    if forwarded(answer) > 0 && lent.setting.medium == 0 {
+    if forwarded(answer) > 0 && lent.medium() == Some(0) {
         lent.room[forwarded(answer) - 1] = lent.octets[lent.octets.len() - 1];
     }
     answer
@@ -224,7 +231,7 @@ fn reads_broadcast(lent: &mut Lent<'_>) -> u64 {
 
 fn area_0_as_an_area(lent: &mut Lent<'_>) -> u64 {
     match accepted(lent) {
-        Some(heard) if !heard.group && lent.setting.line < 0x10 && code(lent, 0) == 1 => {
+        Some(heard) if !heard.group && lent.setting.settings[LINE] < 0x10 && code(lent, 0) == 1 => {
             let below = heard.destination < 0x1000;
             let passes = below == (lent.setting.side == 0);
             with_code(lent, 0, 2 * u8::from(passes))
@@ -234,10 +241,11 @@ fn area_0_as_an_area(lent: &mut Lent<'_>) -> u64 {
 }
 
 fn rows_changed_over(lent: &mut Lent<'_>) -> u64 {
-    let mut codes = lent.setting.codes.to_vec();
-    let half = codes.len() / 2;
-    codes.rotate_left(half);
-    with_codes(lent, &codes)
+    let mut settings = lent.setting.settings.to_vec();
+    if let Some(codes) = settings.get_mut(CODES) {
+        codes.rotate_left(4);
+    }
+    with_settings(lent, &settings)
 }
 
 fn seven_passes_the_table(lent: &mut Lent<'_>) -> u64 {
@@ -437,7 +445,8 @@ fn takes_any_size(lent: &mut Lent<'_>) -> u64 {
 
 /// Whether the filter table draws 18, were it asked first.
 fn is_wrong_table(setting: &Setting<'_>) -> bool {
-    let asked = setting.codes.chunks(4).any(|row| row[2..].contains(&1));
+    let codes = &setting.settings[CODES];
+    let asked = codes.chunks(4).any(|row| row[2..].contains(&1));
     match setting.table.len() {
         TABLE_SIZE => false,
         length => length > 0 || asked,
@@ -453,15 +462,15 @@ fn table_before_setting(lent: &mut Lent<'_>) -> u64 {
 
 fn range_before_table(lent: &mut Lent<'_>) -> u64 {
     match reference_step(lent) {
-        18 if lent.setting.side > 1 || lent.setting.medium > 1 => 14,
+        18 if lent.setting.side > 1 || lent.medium() > Some(1) => 14,
         answer => answer,
     }
 }
 
 fn room_before_range(lent: &mut Lent<'_>) -> u64 {
-    let block = lent.setting.codes.len() == 8 && lent.memory.len() == MEMORY;
+    let blocks = lent.setting.settings.len() == SETTINGS && lent.memory.len() == MEMORY;
     match reference_step(lent) {
-        14 if block && lent.room.len() < ROOM_SIZE => 13,
+        14 if blocks && lent.room.len() < ROOM_SIZE => 13,
         answer => answer,
     }
 }
@@ -478,9 +487,9 @@ fn reader_before_room(lent: &mut Lent<'_>) -> u64 {
     }
 }
 
-fn setting_before_block(lent: &mut Lent<'_>) -> u64 {
+fn setting_before_blocks(lent: &mut Lent<'_>) -> u64 {
     match reference_step(lent) {
-        14 if lent.setting.line == 0 => 15,
+        14 if lent.setting.settings.get(LINE) == Some(&0) => 15,
         answer => answer,
     }
 }
@@ -504,21 +513,12 @@ fn room_as_needed(lent: &mut Lent<'_>) -> u64 {
 }
 
 fn any_medium_from_sub(lent: &mut Lent<'_>) -> u64 {
-    let setting = lent.setting;
-    match setting {
-        Setting {
-            side: 1,
-            medium: 2..,
-            ..
-        } => with_setting(
-            lent,
-            Setting {
-                medium: 0,
-                ..setting
-            },
-        ),
-        _ => reference_step(lent),
+    let mut settings = lent.setting.settings.to_vec();
+    match settings.get_mut(MEDIUM) {
+        Some(medium @ 2..) if lent.setting.side == 1 => *medium = 0,
+        _ => {}
     }
+    with_settings(lent, &settings)
 }
 
 fn asks_one_row(lent: &mut Lent<'_>) -> u64 {
@@ -542,14 +542,14 @@ fn takes_any_idle_table(lent: &mut Lent<'_>) -> u64 {
 }
 
 fn takes_broadcast_code_1(lent: &mut Lent<'_>) -> u64 {
-    let mut codes = lent.setting.codes.to_vec();
-    for place in [1, 5] {
-        match codes.get_mut(place) {
+    let mut settings = lent.setting.settings.to_vec();
+    for place in [2, 6] {
+        match settings.get_mut(place) {
             Some(code) if *code == 1 => *code = 0,
             _ => {}
         }
     }
-    with_codes(lent, &codes)
+    with_settings(lent, &settings)
 }
 
 /// What the reference says of a frame refused by 6 where the check octet is right.
@@ -687,7 +687,7 @@ pub fn refusing() -> Vec<(&'static str, Box<Stepper>)> {
         ("14 before 18", Box::new(range_before_table)),
         ("13 before 14", Box::new(room_before_range)),
         ("reader's before 13", Box::new(reader_before_room)),
-        ("15 before the block's 14", Box::new(setting_before_block)),
+        ("15 before the blocks' 14", Box::new(setting_before_blocks)),
         ("13 only where needed", Box::new(room_as_needed)),
         ("medium not tested from sub", Box::new(any_medium_from_sub)),
         ("table asked by one row", Box::new(asks_one_row)),
