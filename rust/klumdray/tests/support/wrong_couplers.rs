@@ -521,6 +521,34 @@ fn any_medium_from_sub(lent: &mut Lent<'_>) -> u64 {
     with_settings(lent, &settings)
 }
 
+/// The reference with as many settings as it needs, the missing ones being 0.
+fn with_ten_settings(lent: &mut Lent<'_>) -> u64 {
+    let mut settings = lent.setting.settings.to_vec();
+    settings.resize(SETTINGS, 0);
+    with_settings(lent, &settings)
+}
+
+fn takes_no_settings(lent: &mut Lent<'_>) -> u64 {
+    match lent.setting.settings {
+        [] => with_ten_settings(lent),
+        _ => reference_step(lent),
+    }
+}
+
+fn takes_nine_settings(lent: &mut Lent<'_>) -> u64 {
+    match lent.setting.settings.len() {
+        9 => with_ten_settings(lent),
+        _ => reference_step(lent),
+    }
+}
+
+fn takes_eleven_settings(lent: &mut Lent<'_>) -> u64 {
+    match lent.setting.settings.len() {
+        11 => with_ten_settings(lent),
+        _ => reference_step(lent),
+    }
+}
+
 fn asks_one_row(lent: &mut Lent<'_>) -> u64 {
     match reference_step(lent) {
         18 if lent.setting.table.is_empty() && lent.setting.side < 2 => {
@@ -688,6 +716,9 @@ pub fn refusing() -> Vec<(&'static str, Box<Stepper>)> {
         ("13 before 14", Box::new(room_before_range)),
         ("reader's before 13", Box::new(reader_before_room)),
         ("15 before the blocks' 14", Box::new(setting_before_blocks)),
+        ("missing settings are 0", Box::new(takes_no_settings)),
+        ("no medium is TP1", Box::new(takes_nine_settings)),
+        ("an eleventh setting left", Box::new(takes_eleven_settings)),
         ("13 only where needed", Box::new(room_as_needed)),
         ("medium not tested from sub", Box::new(any_medium_from_sub)),
         ("table asked by one row", Box::new(asks_one_row)),
