@@ -89,9 +89,12 @@ impl Settings<'_> {
     /// The settings as the library is lent them, apart from the filter table.
     #[inline]
     fn block(&self) -> [u8; SETTINGS_SIZE] {
-        let [[d0, d1, d2, d3], [u0, u1, u2, u3]] = self.codes;
-        let medium = self.medium.number();
-        [self.line, d0, d1, d2, d3, u0, u1, u2, u3, medium]
+        let mut block = [0; SETTINGS_SIZE];
+        block[0] = self.line;
+        // All at once: one by one they cost every step six instructions more.
+        block[1..9].copy_from_slice(self.codes.as_flattened());
+        block[9] = self.medium.number();
+        block
     }
 }
 
