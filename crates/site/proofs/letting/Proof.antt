@@ -26,12 +26,11 @@ loop-again : tie.Need-loop-again Inv-loop μ-loop
 unfolding lineLetsPassBy
 loop-again c =
     let found = c .before in
-    let asked = found .before .before in
-    both-more (asked .before .loop .inv) (asked .loop-test .taken) (c .lets-pass .ensures ∙ ap (recordBothWays _ _ _) (found .record-from .ensures))
+    both-more (found .before .before .before .loop .inv) (omega arith) (c .lets-pass .ensures ∙ ap (recordBothWays _ _ _) (found .record-from .ensures))
 
 returns : tie.Need-returns Inv-loop μ-loop
 returns c =
-    both-all (c .before .loop .inv) (c .loop-test .left)
+    both-all (c .before .loop .inv) (omega arith)
 
 pub letting-spec : {M : Type 1} → statement M
 letting-spec =

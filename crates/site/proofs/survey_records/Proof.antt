@@ -5,7 +5,7 @@ use native.Mathlib.Omega.{arith}
 use lib.ListN.{length}
 use borrow.Author.Needs.{needs}
 use Rattle.site.proofs.RecordLaws.{record-size}
-use Rattle.site.proofs.Surveying.{Surveying, surveying-none, surveying-all, surveying-more, surveying-refused, surveying-few}
+use Rattle.site.proofs.Surveying.{apart-few, Surveying, surveying-none, surveying-all, surveying-refused, surveying-more}
 use Rattle.site.specs.Stores.{stores}
 use Rattle.site.proofs.survey_records.Statement.{statement}
 use Rattle.site.proofs.survey_records.Tie as tie
@@ -24,38 +24,38 @@ loop-holds c =
 
 cast-loop : tie.Need-cast-loop Inv-loop μ-loop
 cast-loop c =
-    omega (arith, surveying-few (c .loop .inv))
+    omega (arith, apart-few (c .loop .inv .apart))
 
 returns : tie.Need-returns Inv-loop μ-loop
 returns c =
     let judging = c .before .before .before .before in
     let found = judging .before .before in
-    surveying-refused (found .before .before .loop .inv) (found .before .loop-test .taken) (found .record-from .ensures) (judging .before .line-of .ensures) (search needs) (judging .judge-record .ensures) _ (c .before .before .judged .given .1) (c .refused .ensures)
+    surveying-refused (found .before .before .loop .inv) (omega arith) (found .record-from .ensures) (judging .before .line-of .ensures) (search needs) (judging .judge-record .ensures) _ (c .before .before .judged .given .1) (c .refused .ensures)
 
 cast-from : tie.Need-cast-from Inv-loop μ-loop
 cast-from c =
     let found = c .before .before .before .before in
-    omega (arith, record-size _ _ (found .before .loop-test .taken) (found .record-from .ensures) .1)
+    omega (arith, record-size _ _ (omega arith) (found .record-from .ensures) .1)
 
 add-from : tie.Need-add-from Inv-loop μ-loop
 add-from c =
     let found = c .before .before .before .before in
-    omega (arith, surveying-few (found .before .before .loop .inv), record-size _ _ (found .before .loop-test .taken) (found .record-from .ensures) .1)
+    omega (arith, apart-few (found .before .before .loop .inv .apart), record-size _ _ (omega arith) (found .record-from .ensures) .1)
 
 loop-less : tie.Need-loop-less Inv-loop μ-loop
 loop-less c =
     let found = c .before .before .before .before in
-    omega (arith, found .before .loop-test .taken, record-size _ _ (found .before .loop-test .taken) (found .record-from .ensures) .0)
+    omega (arith, record-size _ _ (omega arith) (found .record-from .ensures) .0)
 
 loop-again : tie.Need-loop-again Inv-loop μ-loop
 loop-again c =
     let judging = c .before .before in
     let found = judging .before .before in
-    surveying-more (found .before .before .loop .inv) (found .before .loop-test .taken) (found .record-from .ensures) (judging .before .line-of .ensures) (search needs) (judging .judge-record .ensures) (c .enum-told .given .1)
+    surveying-more (found .before .before .loop .inv) (omega arith) (found .record-from .ensures) (judging .before .line-of .ensures) (search needs) (judging .judge-record .ensures) (c .enum-told .given .1)
 
 returns-2 : tie.Need-returns-2 Inv-loop μ-loop
 returns-2 c =
-    surveying-all (c .before .loop .inv) (c .loop-test .left)
+    surveying-all (c .before .loop .inv) (omega arith)
 
 pub survey-records-spec : {M : Type 1} → statement M
 survey-records-spec =
