@@ -6,15 +6,15 @@ use mathlib.Core.List.{List, [], _∷_}
 use mathlib.Core.Path.{_≡_, refl}
 use native.Mathlib.Omega.{arith}
 use lib.Dec.{eqb}
-use lib.ListN.{length, take, drop, length-drop}
+use lib.ListN.{length, drop, length-drop}
 use borrow.Author.Tests.{eq-eqb, ne-eqb}
 use Rattle.frame.specs.Order.{NoneOf}
 use Rattle.passing.specs.Settings.{areCodes}
-use Rattle.octets.proofs.Octets.{octets-take, octets-drop}
+use Rattle.octets.proofs.Octets.{octets-drop}
 use Rattle.octets.proofs.Truth.{or-false}
 use Rattle.octets.specs.Octets.{Octets}
-use Rattle.site.proofs.RecordLaws.{by-equal, size-some}
-use Rattle.site.specs.Records.{recordSize, recordsBy, recordsOf, lineOf, codesOf}
+use Rattle.site.proofs.RecordLaws.{size-some, first-octets, by-equal}
+use Rattle.site.specs.Records.{recordSize, firstRecord, recordsBy, recordsOf, lineOf, codesOf}
 use Rattle.site.specs.Stores.{Stores}
 use Rattle.site.specs.WellFormed.{isAmong, recordsTests, siteTests}
 
@@ -73,7 +73,7 @@ most-by st w (suc k) (x ∷ xs) o h n =
     let s = x ∷ xs in
     let z = recordSize s in
     let left = length-drop z s in
-    let more = counted-more w (take z s) (octets-take z s o 2) (n .1 .0) (n .1 .1 .1 .0) in
+    let more = counted-more w (firstRecord s) (first-octets s o 2) (n .1 .0) (n .1 .1 .1 .0) in
     let rest = most-by st more k (drop z s) (octets-drop z s o) (omega (arith, left, size-some s)) (n .1 .1 .1 .1) in
     (omega (arith, rest .0), omega (arith, left, size-some s, rest .1))
 

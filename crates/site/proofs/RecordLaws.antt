@@ -1,16 +1,16 @@
 -- The records of a site, one at a time: what is left from an index on is the record there and what is left behind it.
-use Prim.Native.Nat.{ℕ, zero, suc, _+_, _-_, _≤_, _<_, min}
+use Prim.Native.Nat.{ℕ, zero, suc, _+_, _-_, _≤_, _<_}
 use mathlib.Core.Bool.{Bool, true, false, cond}
 use mathlib.Core.List.{List, [], _∷_}
 use mathlib.Core.Path.{_≡_, refl, sym, ap, _∙_}
 use native.Mathlib.Omega.{arith}
-use lib.Dec.{eqb}
-use lib.ListN.{length, take, drop, length-take, length-drop, drop-of-length-le}
-use lib.Seq.{drop-drop, take-all}
-use borrow.Author.Tests.{eqb-true, eqb-false}
+use lib.Dec.{leb, eqb}
+use lib.ListN.{length, take, drop, length-drop, drop-of-length-le}
+use lib.Seq.{drop-drop, length-take-le}
+use borrow.Author.Tests.{leb-true, leb-false, eqb-true, eqb-false}
 use Rattle.octets.proofs.Octets.{octets-take, octets-drop}
 use Rattle.octets.specs.Octets.{Octets}
-use Rattle.site.specs.Records.{recordSize, recordsBy, recordsOf, lineOf, couplerIn, couplerOf}
+use Rattle.site.specs.Records.{recordSize, firstRecord, recordsBy, recordsOf, lineOf, couplerIn, couplerOf}
 use Rattle.site.specs.Starts.{recordFrom}
 
 pub size-some : (s : List ℕ) → (0 < recordSize s) × (recordSize s ≤ 12)
@@ -31,59 +31,84 @@ enough zero k (o ∷ os) h i = absurd (omega arith)
 enough (suc j) zero (o ∷ os) h i = absurd (omega arith)
 enough (suc j) (suc k) (o ∷ os) h i =
     let rest = drop (recordSize (o ∷ os)) (o ∷ os) in
-    ap (λ (l : List (List ℕ)). take (recordSize (o ∷ os)) (o ∷ os) ∷ l) (enough j k rest (omega (arith, fewer o os)) (omega (arith, fewer o os)))
+    ap (λ (l : List (List ℕ)). firstRecord (o ∷ os) ∷ l) (enough j k rest (omega (arith, fewer o os)) (omega (arith, fewer o os)))
 
-front : (s : List ℕ) → 0 < length s → recordsOf s ≡ take (recordSize s) s ∷ recordsOf (drop (recordSize s) s)
+first-more : (s : List ℕ) → 0 < length s → recordsOf s ≡ firstRecord s ∷ recordsOf (drop (recordSize s) s)
 unfolding recordsOf
-front [] h = absurd (omega arith)
-front (o ∷ os) h =
+first-more [] h = absurd (omega arith)
+first-more (o ∷ os) h =
     let rest = drop (recordSize (o ∷ os)) (o ∷ os) in
-    ap (λ (l : List (List ℕ)). take (recordSize (o ∷ os)) (o ∷ os) ∷ l) (enough (length os) (length rest) rest (fewer o os) (omega arith))
-
-behind : (n : ℕ) (s : List ℕ) → drop n s ≡ drop (length (take n s)) s
-behind zero s = refl
-behind (suc n) [] = refl
-behind (suc n) (o ∷ os) = behind n os
-
-pub records-more : (site : List ℕ) (from : ℕ) → from < length site
-    → recordsOf (drop from site) ≡ recordFrom site from ∷ recordsOf (drop (from + length (recordFrom site from)) site)
-unfolding recordFrom
-records-more site from h =
-    let s = drop from site in
-    let some : 0 < length s = rw (length-drop from site) (omega arith) in
-    front s some ∙ ap (λ (l : List ℕ). take (recordSize s) s ∷ recordsOf l) (behind (recordSize s) s ∙ drop-drop (length (take (recordSize s) s)) from site)
+    ap (λ (l : List (List ℕ)). firstRecord (o ∷ os) ∷ l) (enough (length os) (length rest) rest (fewer o os) (omega arith))
 
 pub records-end : (site : List ℕ) (from : ℕ) → length site ≤ from → recordsOf (drop from site) ≡ []
 unfolding recordsOf
 records-end site from h = rw (drop-of-length-le site h) refl
 
--- a record has an octet at least, as many as its size at most, and no more than are left
-pub record-size : (site : List ℕ) (from : ℕ) → from < length site → {octets : List ℕ} → octets ≡ recordFrom site from
-    → (0 < length octets) × (length octets ≤ 12) × (from + length octets ≤ length site)
+-- before its end a record stands in front ..
+any-more : (site : List ℕ) (from : ℕ) → from < length site → recordsOf (drop from site) ≡ recordFrom site from ∷ recordsOf (drop (from + recordSize (drop from site)) site)
 unfolding recordFrom
-record-size site from h {octets} e =
-    let s = drop from site in
-    let n : length octets ≡ min (recordSize s) (length site - from) = ap length e ∙ length-take (recordSize s) s ∙ ap (min (recordSize s)) (length-drop from site) in
-    let z = size-some s in
-    (omega (arith, n, z), omega (arith, n, z), omega (arith, n, z))
+any-more site from h =
+    let some : 0 < length (drop from site) = rw (length-drop from site) (omega arith) in
+    rw (← drop-drop (recordSize (drop from site)) from site) (first-more (drop from site) some)
 
--- where the site ends before the record does, it is what is left
-pub record-left : (site : List ℕ) (from : ℕ) → length site < from + 12 → take (length site - from) (drop from site) ≡ recordFrom site from
-unfolding recordFrom recordSize
-record-left site from h =
-    let s = drop from site in
-    let n = length-drop from site in
-    take-all (length site - from) s (omega (arith, n)) ∙ sym (take-all 12 s (omega (arith, n)))
+whole-or-none : {P : Type 0} (site : List ℕ) (from : ℕ)
+    → (length (recordFrom site from) ≡ recordSize (drop from site) → from + recordSize (drop from site) ≤ length site → P)
+    → (recordFrom site from ≡ [] → length site < from + recordSize (drop from site) → P) → P
+unfolding recordFrom firstRecord
+whole-or-none {P} site from f g = pick (leb n (length s)) refl
+  where
+    s : List ℕ
+    s = drop from site
 
--- where the site's octets are octets, so are those of a coupler's record
+    n : ℕ
+    n = recordSize s
+
+    pick : (b : Bool) → leb n (length s) ≡ b → P
+    pick true e =
+        let h = leb-true n (length s) e in
+        f (rw e (length-take-le n s h)) (omega (arith, h, length-drop from site, size-some s .0))
+    pick false e = g (rw e refl) (omega (arith, leb-false n (length s) e, length-drop from site))
+
+record-whole : (site : List ℕ) (from : ℕ) → 0 < length (recordFrom site from) → (length (recordFrom site from) ≡ recordSize (drop from site)) × (from + recordSize (drop from site) ≤ length site)
+record-whole site from h = whole-or-none site from (λ w m. (w, m)) (λ n m. absurd (omega (arith, h, ap length n)))
+
+-- .. which the site has whole where the walk has tested that it has some octets
+module _ (site : List ℕ) (from : ℕ) {tested : List ℕ} (q : tested ≡ recordFrom site from) (h : 0 < length tested) {octets : List ℕ} (r : octets ≡ recordFrom site from) where
+  pub record-some : (0 < length octets) × (from + length octets ≤ length site)
+  record-some =
+      let w = record-whole site from (rw (← q) h) in
+      (omega (arith, h, ap length q, ap length r), omega (arith, w, ap length r))
+
+  pub records-more : recordsOf (drop from site) ≡ octets ∷ recordsOf (drop (from + length octets) site)
+  records-more =
+      let w = record-whole site from (rw (← q) h) in
+      rw (r, w .0) (any-more site from (omega (arith, w, size-some (drop from site))))
+
+pub record-most : (site : List ℕ) (from : ℕ) {octets : List ℕ} → octets ≡ recordFrom site from → length octets ≤ 12
+record-most site from r = whole-or-none site from (λ w m. omega (arith, ap length r, w, size-some (drop from site))) (λ n m. omega (arith, ap length (r ∙ n)))
+
+-- .. or no octets, and it is the last
+pub records-cut : (site : List ℕ) (from : ℕ) {tested : List ℕ} → tested ≡ recordFrom site from → length tested ≡ 0 → from < length site → recordsOf (drop from site) ≡ [] ∷ []
+records-cut site from q z h = whole-or-none site from
+    (λ w m. absurd (omega (arith, ap length q, w, z, size-some (drop from site))))
+    (λ n m. any-more site from h ∙ rw (n, records-end site (from + recordSize (drop from site)) (omega (arith, m))) refl)
+
+-- where the site's octets are octets, so are those of a record and of a coupler's
+pub first-octets : (s : List ℕ) → Octets s → Octets (firstRecord s)
+unfolding firstRecord
+first-octets s o = pick (leb (recordSize s) (length s))
+  where
+    pick : (b : Bool) → Octets (cond b (take (recordSize s) s) [])
+    pick true = octets-take (recordSize s) s o
+    pick false = λ i. omega arith
+
 octets-by : (k : ℕ) (s : List ℕ) (line : ℕ) (found : List ℕ) → Octets s → Octets found → Octets (couplerIn line found (recordsBy k s))
 octets-by zero s line found o f = f
 octets-by (suc k) [] line found o f = f
 octets-by (suc k) (x ∷ xs) line found o f =
     let s = x ∷ xs in
-    let n = recordSize s in
-    let here = eqb (lineOf (take n s)) line in
-    octets-by k (drop n s) line (cond here (take n s) found) (octets-drop n s o) (either here (take n s) (octets-take n s o))
+    let here = eqb (lineOf (firstRecord s)) line in
+    octets-by k (drop (recordSize s) s) line (cond here (firstRecord s) found) (octets-drop (recordSize s) s o) (either here (firstRecord s) (first-octets s o))
   where
     either : (b : Bool) (r : List ℕ) → Octets r → Octets (cond b r found)
     either true r h = h

@@ -10,9 +10,9 @@ use Rattle.frame.proofs.Order.{passed-iff}
 use Rattle.frame.specs.declared.Verdict.the-variants.{Fine}
 use Rattle.octets.specs.Octets.{Octets}
 use Rattle.site.proofs.RecordCount.{site-most}
-use Rattle.site.proofs.RecordLaws.{records-more, records-end, record-size, by-equal}
+use Rattle.site.proofs.RecordLaws.{records-end, record-some, records-more, records-cut, by-equal}
 use Rattle.site.specs.Letting.{letsPass, lineLetsPass, lineLetsPassBy, MarksBothWays, passageBy, passageAt}
-use Rattle.site.specs.Records.{recordSize, recordsOf, lineOf, couplerIn, couplerOf}
+use Rattle.site.specs.Records.{recordSize, firstRecord, recordsOf, lineOf, couplerIn, couplerOf}
 use Rattle.site.specs.Starts.{recordFrom, noStart, startIn, startOf, DidSurvey, couplerFrom, Noted}
 use Rattle.site.specs.Stores.{Stores}
 use Rattle.site.specs.WellFormed.{siteTests}
@@ -20,8 +20,12 @@ use Rattle.site.specs.declared.BothWays.{BothWays}
 use Rattle.site.specs.declared.Surveyed.{Surveyed}
 
 no-record : (site : List ℕ) (from : ℕ) → length site ≤ from → recordFrom site from ≡ []
-unfolding recordFrom recordSize
+unfolding recordFrom firstRecord recordSize
 no-record site from h = rw (drop-of-length-le site h) refl
+
+length-zero : (l : List ℕ) → length l ≡ 0 → l ≡ []
+length-zero [] e = refl
+length-zero (x ∷ l) e = absurd (omega arith)
 
 module _ (site : List ℕ) (line : ℕ) where
   of-chosen : (b : Bool) (from found : ℕ) → recordFrom site (cond b from found) ≡ cond b (recordFrom site from) (recordFrom site found)
@@ -31,15 +35,23 @@ module _ (site : List ℕ) (line : ℕ) where
   found-by : (k from found : ℕ) → length site - from ≤ k
       → recordFrom site (startIn line from found (recordsOf (drop from site))) ≡ couplerIn line (recordFrom site found) (recordsOf (drop from site))
   found-by zero from found h = rw (records-end site from (omega arith)) refl
-  found-by (suc k) from found h = by-equal (length site - from) 0
-      (λ e. rw (records-end site from (omega (arith, e))) refl)
+  found-by (suc k) from found h = by-equal (length r) 0 none
       (λ e.
-      let r = recordFrom site from in
-      let more = records-more site from (omega (arith, e)) in
-      let b = eqb (lineOf r) line in
-      rw more
-      (found-by k (from + length r) (cond b from found) (omega (arith, e, record-size site from (omega (arith, e)) refl .0))
-      ∙ ap (λ (x : List ℕ). couplerIn line x (recordsOf (drop (from + length r) site))) (of-chosen b from found)))
+      let some : 0 < length r = omega (arith, e) in
+      let fits = record-some site from refl some refl .1 in
+      rw (records-more site from refl some refl) (found-by k (from + length r) (cond here from found) (omega (arith, some, fits))
+      ∙ ap (λ (x : List ℕ). couplerIn line x (recordsOf (drop (from + length r) site))) (of-chosen here from found)))
+    where
+      r : List ℕ
+      r = recordFrom site from
+
+      here : Bool
+      here = eqb (lineOf r) line
+
+      none : length r ≡ 0 → recordFrom site (startIn line from found (recordsOf (drop from site))) ≡ couplerIn line (recordFrom site found) (recordsOf (drop from site))
+      none e = by-equal (length site - from) 0
+          (λ z. rw (records-end site from (omega (arith, z))) refl)
+          (λ z. rw (records-cut site from refl e (omega (arith, z))) (of-chosen (eqb 0 line) from found ∙ ap (λ (x : List ℕ). cond (eqb 0 line) x (recordFrom site found)) (length-zero r e)))
 
   pub start-finds : length site ≤ noStart → recordFrom site (startOf line (recordsOf site)) ≡ couplerOf line (recordsOf site)
   unfolding startOf couplerOf

@@ -11,12 +11,13 @@ use lib.Seq.{getD-set-same, getD-set-other, ext-getD}
 use borrow.Author.Tests.{eq-eqb, ne-eqb}
 use Rattle.frame.proofs.Order.{first-passed, first-refused, passed-iff}
 use Rattle.frame.specs.Order.{Test, firstOf, _gives_}
+use Rattle.frame.specs.declared.Refusal.the-variants.{WrongRecord}
 use Rattle.frame.specs.declared.Refusal.{Refusal}
 use Rattle.frame.specs.declared.Verdict.the-variants.{Fine, Refuse}
 use Rattle.frame.specs.declared.Verdict.{Verdict}
 use Rattle.site.proofs.RecordCount.{Counted, counted-none, counted-more, counted-most}
-use Rattle.site.proofs.RecordLaws.{records-more, records-end, record-size, by-equal}
-use Rattle.site.specs.Records.{recordsOf, lineOf}
+use Rattle.site.proofs.RecordLaws.{records-end, record-most, records-more, records-cut, by-equal}
+use Rattle.site.specs.Records.{recordsOf, isMarked, lineOf}
 use Rattle.site.specs.Starts.{recordFrom, noStart, startIn, startOf, DidSurveyBy}
 use Rattle.site.specs.Stores.{Stores}
 use Rattle.site.specs.WellFormed.{isAmong, recordTests, recordsTests}
@@ -102,8 +103,16 @@ pub refused-by : {q : Refusal} {survey : Surveyed} (tests : List Test) (records 
     → DidSurveyBy tests records survey
 refused-by tests records f w = record { judged = w .judged ∙ sym f; size = w .size; each = λ n h. rw f (w .each n h) }
 
-module _ {st : Stores} {site starts : List ℕ} {from : ℕ} (w : Surveying st site starts from) (h : from < length site)
-    {octets : List ℕ} {line : ℕ} (r : octets ≡ recordFrom site from) (l : line ≡ lineOf octets) (b : line < 256)
+-- octets are left over
+pub surveying-cut : {st : Stores} {site starts : List ℕ} {from : ℕ} → Surveying st site starts from → {tested : List ℕ} → tested ≡ recordFrom site from → length tested ≡ 0 → from < length site
+    → {survey : Surveyed} → DidSurveyBy (true gives WrongRecord ∷ []) [] survey → DidSurveyBy (recordsTests st [] (recordsOf site)) (recordsOf site) survey
+unfolding isMarked
+surveying-cut {st} {site} {from = from} w q z h =
+    refused-by (recordsTests st [] (recordsOf site)) (recordsOf site) (w .left ∙ ap (λ (rs : List (List ℕ)). firstOf (recordsTests st (w .apart .lines) rs)) (records-cut site from q z h))
+
+module _ {st : Stores} {site starts : List ℕ} {from : ℕ} (w : Surveying st site starts from)
+    {tested : List ℕ} (q : tested ≡ recordFrom site from) (h : 0 < length tested)
+    {octets : List ℕ} (r : octets ≡ recordFrom site from) {line : ℕ} (l : line ≡ lineOf octets) (b : line < 256)
     {judged : Verdict} (j : judged ≡ firstOf (recordTests st (not (eqb (getD starts line 0) noStart)) octets)) where
   abbrev here : List Test
   here = testsBehind st (w .apart .lines) octets
@@ -115,20 +124,20 @@ module _ {st : Stores} {site starts : List ℕ} {from : ℕ} (w : Surveying st s
   behind = recordsTests st (lineOf octets ∷ w .apart .lines) rest
 
   split : recordsOf (drop from site) ≡ octets ∷ rest
-  split = rw r (records-more site from h)
+  split = records-more site from q h r
 
   unrolled : firstOf (recordsTests st [] (recordsOf site)) ≡ firstOf (here ++ behind)
   unrolled = w .left ∙ ap (λ (rs : List (List ℕ)). firstOf (recordsTests st (w .apart .lines) rs)) split
 
-  pub surveying-refused : (q : Refusal) → judged ≡ Refuse q → {survey : Surveyed} → DidSurveyBy (true gives q ∷ []) [] survey
+  pub surveying-refused : (refusal : Refusal) → judged ≡ Refuse refusal → {survey : Surveyed} → DidSurveyBy (true gives refusal ∷ []) [] survey
       → DidSurveyBy (recordsTests st [] (recordsOf site)) (recordsOf site) survey
-  surveying-refused q f =
-      refused-by (recordsTests st [] (recordsOf site)) (recordsOf site) (unrolled ∙ first-refused here behind q (sym (by-lines (w .apart) st octets l b j) ∙ f))
+  surveying-refused refusal f =
+      refused-by (recordsTests st [] (recordsOf site)) (recordsOf site) (unrolled ∙ first-refused here behind refusal (sym (by-lines (w .apart) st octets l b j) ∙ f))
 
   pub surveying-more : judged ≡ Fine → Surveying st site (set starts line from) (from + length octets)
   unfolding apart-more
   surveying-more f = record {
-    apart = apart-more (w .apart) st octets l b j f (record-size site from h r .1) from (λ e. omega (arith, apart-few (w .apart), e));
+    apart = apart-more (w .apart) st octets l b j f (record-most site from r) from (λ e. omega (arith, apart-few (w .apart), e));
     noted = λ n hn.
         let noted : cond (eqb (lineOf octets) n) from (getD starts n 0) ≡ getD (set starts line from) n 0 = by-equal line n
         (λ e. rw (← l, eq-eqb line n e, ← e, getD-set-same starts line from 0 (omega (arith, w .apart .size))) refl)

@@ -3,7 +3,7 @@
 use Prim.Native.Nat.{ℕ, zero, suc}
 use mathlib.Core.Bool.{Bool, not, cond, _&&_}
 use mathlib.Core.List.{List, [], _∷_}
-use lib.Dec.{eqb}
+use lib.Dec.{leb, eqb}
 use lib.ListN.{length, take, drop}
 use Rattle.octets.specs.Octets.{octetAt}
 
@@ -11,11 +11,15 @@ use Rattle.octets.specs.Octets.{octetAt}
 unfoldable pub recordSize : List ℕ → ℕ
 recordSize s = 12
 
--- the records of a site, one behind the other, each by its own size; the last is what is left
+-- the record that stands there; no octets where they are too few for it, so that its mark is missing (16)
+unfoldable pub firstRecord : List ℕ → List ℕ
+firstRecord s = cond (leb (recordSize s) (length s)) (take (recordSize s) s) []
+
+-- the records of a site, one behind the other, each by its own size
 abbrev pub recordsBy : ℕ → List ℕ → List (List ℕ)
 recordsBy zero s = []
 recordsBy (suc k) [] = []
-recordsBy (suc k) (o ∷ os) = take (recordSize (o ∷ os)) (o ∷ os) ∷ recordsBy k (drop (recordSize (o ∷ os)) (o ∷ os))
+recordsBy (suc k) (o ∷ os) = firstRecord (o ∷ os) ∷ recordsBy k (drop (recordSize (o ∷ os)) (o ∷ os))
 
 unfoldable pub recordsOf : List ℕ → List (List ℕ)
 recordsOf site = recordsBy (length site) site

@@ -4,16 +4,16 @@ use mathlib.Core.Bool.{cond}
 use mathlib.Core.List.{List, [], _∷_}
 use mathlib.Core.Path.{_≡_}
 use lib.Dec.{eqb}
-use lib.ListN.{length, getD, take, drop}
+use lib.ListN.{length, getD, drop}
 use Rattle.frame.specs.Order.{Test, firstOf, answerBy}
 use Rattle.site.specs.declared.Surveyed.{Surveyed}
-use Rattle.site.specs.Records.{recordSize, recordsOf, lineOf, couplerOf}
+use Rattle.site.specs.Records.{firstRecord, recordsOf, lineOf, couplerOf}
 use Rattle.site.specs.Stores.{Stores}
 use Rattle.site.specs.WellFormed.{siteTests}
 
--- the record that starts at an index: what is left of the site where it ends before, and no octets behind its end
+-- the record that starts at an index: no octets where the site does not have it whole
 unfoldable pub recordFrom : List ℕ → ℕ → List ℕ
-recordFrom site from = take (recordSize (drop from site)) (drop from site)
+recordFrom site from = firstRecord (drop from site)
 
 -- stands for no coupler: no record of a well-formed site starts there, which has at most 3,060 octets
 abbrev pub noStart : ℕ

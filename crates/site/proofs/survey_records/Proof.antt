@@ -1,11 +1,11 @@
 -- The walk's law `Surveying`: a record that is fine moves the index on, one that is not decides.
 use Prim.Native.Nat.{_-_}
-use mathlib.Core.Path.{refl}
+use mathlib.Core.Path.{refl, ap}
 use native.Mathlib.Omega.{arith}
 use lib.ListN.{length}
 use borrow.Author.Needs.{needs}
-use Rattle.site.proofs.RecordLaws.{record-size}
-use Rattle.site.proofs.Surveying.{apart-few, Surveying, surveying-none, surveying-all, surveying-refused, surveying-more}
+use Rattle.site.proofs.RecordLaws.{record-some, record-most}
+use Rattle.site.proofs.Surveying.{apart-few, Surveying, surveying-none, surveying-all, surveying-cut, surveying-refused, surveying-more}
 use Rattle.site.specs.Stores.{stores}
 use Rattle.site.proofs.survey_records.Statement.{statement}
 use Rattle.site.proofs.survey_records.Tie as tie
@@ -22,40 +22,51 @@ loop-holds : tie.Need-loop-holds Inv-loop μ-loop
 loop-holds c =
     surveying-none _ _ _ refl
 
-cast-loop : tie.Need-cast-loop Inv-loop μ-loop
-cast-loop c =
+record-at-requires : tie.Need-record-at-requires Inv-loop μ-loop
+record-at-requires c κs =
     omega (arith, apart-few (c .loop .inv .apart))
+
+record-at-requires-2 : tie.Need-record-at-requires-2 Inv-loop μ-loop
+record-at-requires-2 c κs =
+    omega (arith, apart-few (c .before .before .loop .inv .apart))
 
 returns : tie.Need-returns Inv-loop μ-loop
 returns c =
     let judging = c .before .before .before .before in
     let found = judging .before .before in
-    surveying-refused (found .before .before .loop .inv) (omega arith) (found .record-from .ensures) (judging .before .line-of .ensures) (search needs) (judging .judge-record .ensures) _ (c .before .before .judged .given .1) (c .refused .ensures)
+    let tested = found .before .before in
+    surveying-refused (tested .before .loop .inv) (tested .record-at .ensures) (found .before .if1 .taken) (found .record-at2 .ensures) (judging .before .line-of .ensures) (search needs) (judging .judge-record .ensures) _ (c .before .before .judged .given .1) (c .refused .ensures)
 
-cast-from : tie.Need-cast-from Inv-loop μ-loop
-cast-from c =
-    let found = c .before .before .before .before in
-    omega (arith, record-size _ _ (omega arith) (found .record-from .ensures) .1)
+cast-starts : tie.Need-cast-starts Inv-loop μ-loop
+cast-starts c =
+    omega (arith, apart-few (c .before .before .before .before .before .before .before .loop .inv .apart))
 
 add-from : tie.Need-add-from Inv-loop μ-loop
 add-from c =
     let found = c .before .before .before .before in
-    omega (arith, apart-few (found .before .before .loop .inv .apart), record-size _ _ (omega arith) (found .record-from .ensures) .1)
+    omega (arith, apart-few (found .before .before .before .loop .inv .apart), record-most _ _ (found .record-at2 .ensures))
 
 loop-less : tie.Need-loop-less Inv-loop μ-loop
 loop-less c =
     let found = c .before .before .before .before in
-    omega (arith, record-size _ _ (omega arith) (found .record-from .ensures) .0)
+    let tested = found .before .before in
+    omega (arith, record-some _ _ (tested .record-at .ensures) (found .before .if1 .taken) (found .record-at2 .ensures))
 
 loop-again : tie.Need-loop-again Inv-loop μ-loop
 loop-again c =
     let judging = c .before .before in
     let found = judging .before .before in
-    surveying-more (found .before .before .loop .inv) (omega arith) (found .record-from .ensures) (judging .before .line-of .ensures) (search needs) (judging .judge-record .ensures) (c .enum-told .given .1)
+    let tested = found .before .before in
+    surveying-more (tested .before .loop .inv) (tested .record-at .ensures) (found .before .if1 .taken) (found .record-at2 .ensures) (judging .before .line-of .ensures) (search needs) (judging .judge-record .ensures) (c .enum-told .given .1)
 
 returns-2 : tie.Need-returns-2 Inv-loop μ-loop
 returns-2 c =
-    surveying-all (c .before .loop .inv) (omega arith)
+    let tested = c .before .before .before in
+    surveying-cut (tested .before .loop .inv) (tested .record-at .ensures) (omega arith) (omega arith) (c .refused2 .ensures)
+
+returns-3 : tie.Need-returns-3 Inv-loop μ-loop
+returns-3 c =
+    surveying-all (c .before .before .before .loop .inv) (omega arith)
 
 pub survey-records-spec : {M : Type 1} → statement M
 survey-records-spec =
@@ -64,8 +75,8 @@ survey-records-spec =
     Inv-loop
     μ-loop
     loop-holds
-    cast-loop
-    (λ c κs. search needs)
+    record-at-requires
+    record-at-requires-2
     (λ c κs. search needs)
     (λ c. search needs)
     (λ c. search needs)
@@ -75,10 +86,12 @@ survey-records-spec =
     (λ c κs. search needs)
     returns
     (λ c. search needs)
+    cast-starts
     (λ c. search needs)
     (λ c. search needs)
-    cast-from
     add-from
     loop-less
     loop-again
-    returns-2)
+    (λ c κs. search needs)
+    returns-2
+    returns-3)
