@@ -81,19 +81,19 @@ fn survey_records<'a>(site: &[u8], project: &'a [u8], own: &'a [u8]) -> Surveyed
     ensures { λ r. ⌜ DidSurveyBy (recordsTests (stores (now (project .entry)) (now (own .entry))) [] (recordsOf (now (site .entry)))) (recordsOf (now (site .entry))) r ⌝ }
 {
     let mut starts = [0xffff; 256];
-    let mut from = 0;
-    while records::record_at(site, from).len() > 0 {
-        let octets = records::record_at(site, from);
+    let mut from: u16 = 0;
+    while records::record_from(site, from).len() > 0 {
+        let octets = records::record_from(site, from);
         let line = records::line_of(octets) as usize;
         let twice = starts[line] != 0xffff;
         let judged = judge_record(octets, project, own, twice);
         if let Verdict::Refuse(refusal) = judged {
             return refused(refusal);
         }
-        starts[line] = from as u16;
-        from += octets.len();
+        starts[line] = from;
+        from += octets.len() as u16;
     }
-    if from < site.len() {
+    if (from as usize) < site.len() {
         return refused(Refusal::WrongRecord);
     }
     Surveyed {

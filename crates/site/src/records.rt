@@ -1,27 +1,19 @@
 // The records of a site, and what each says.
 ghost use mathlib.Core.Path.{_≡_};
-ghost use Prim.Native.Nat.{_<_};
 ghost use Rattle.site.specs.Records.{isMarked, lineOf, codesOf, tableNumber};
 ghost use Rattle.site.specs.Starts.{recordFrom};
 
 // The record that starts at an index; empty where the site does not have it whole.
-pub(crate) fn record_at(site: &[u8], from: usize) -> &[u8]
-    requires { ⌜ from < 0x10000 ⌝ }
-    ensures { λ r. ⌜ now r ≡ recordFrom (now (site .entry)) from ⌝ }
+pub(crate) fn record_from(site: &[u8], start: u16) -> &[u8]
+    ensures { λ r. ⌜ now r ≡ recordFrom (now (site .entry)) start ⌝ }
 {
+    let from = start as usize;
     let to = from + 12;
     if to <= site.len() {
         &site[from..to]
     } else {
         &site[..0]
     }
-}
-
-// The same by a start that was noted.
-pub(crate) fn record_from(site: &[u8], start: u16) -> &[u8]
-    ensures { λ r. ⌜ now r ≡ recordFrom (now (site .entry)) start ⌝ }
-{
-    record_at(site, start as usize)
 }
 
 pub(crate) fn is_marked(octets: &[u8]) -> bool

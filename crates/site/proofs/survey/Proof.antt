@@ -1,5 +1,5 @@
 -- Store sizes, then the length, then the records.
-use mathlib.Core.Path.{_≡_, refl, sym, _∙_}
+use mathlib.Core.Path.{refl, sym, _∙_}
 use borrow.Author.Needs.{needs}
 use borrow.Author.Tests.{eq-eqb, ne-eqb}
 use Rattle.site.proofs.Surveying.{refused-by, records-decide}

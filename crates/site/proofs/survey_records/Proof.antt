@@ -1,6 +1,6 @@
 -- The walk's law `Surveying`: a record that is fine moves the index on, one that is not decides.
 use Prim.Native.Nat.{_-_}
-use mathlib.Core.Path.{refl, ap}
+use mathlib.Core.Path.{refl}
 use native.Mathlib.Omega.{arith}
 use lib.ListN.{length}
 use borrow.Author.Needs.{needs}
@@ -22,47 +22,43 @@ loop-holds : tie.Need-loop-holds Inv-loop μ-loop
 loop-holds c =
     surveying-none _ _ _ refl
 
-record-at-requires : tie.Need-record-at-requires Inv-loop μ-loop
-record-at-requires c κs =
-    omega (arith, apart-few (c .loop .inv .apart))
-
-record-at-requires-2 : tie.Need-record-at-requires-2 Inv-loop μ-loop
-record-at-requires-2 c κs =
-    omega (arith, apart-few (c .before .before .loop .inv .apart))
-
 returns : tie.Need-returns Inv-loop μ-loop
 returns c =
     let judging = c .before .before .before .before in
     let found = judging .before .before in
     let tested = found .before .before in
-    surveying-refused (tested .before .loop .inv) (tested .record-at .ensures) (found .before .if1 .taken) (found .record-at2 .ensures) (judging .before .line-of .ensures) (search needs) (judging .judge-record .ensures) _ (c .before .before .judged .given .1) (c .refused .ensures)
+    surveying-refused (tested .before .loop .inv) (tested .record-from .ensures) (found .before .if1 .taken) (found .record-from2 .ensures) (judging .before .line-of .ensures) (search needs) (judging .judge-record .ensures) _ (c .before .before .judged .given .1) (c .refused .ensures)
 
-cast-starts : tie.Need-cast-starts Inv-loop μ-loop
-cast-starts c =
-    omega (arith, apart-few (c .before .before .before .before .before .before .before .loop .inv .apart))
+cast-from : tie.Need-cast-from Inv-loop μ-loop
+cast-from c =
+    omega (arith, record-most _ _ (c .before .before .before .before .record-from2 .ensures))
 
 add-from : tie.Need-add-from Inv-loop μ-loop
 add-from c =
     let found = c .before .before .before .before in
-    omega (arith, apart-few (found .before .before .before .loop .inv .apart), record-most _ _ (found .record-at2 .ensures))
+    omega (arith, apart-few (found .before .before .before .loop .inv .apart), record-most _ _ (found .record-from2 .ensures))
 
 loop-less : tie.Need-loop-less Inv-loop μ-loop
 loop-less c =
     let found = c .before .before .before .before in
     let tested = found .before .before in
-    omega (arith, record-some _ _ (tested .record-at .ensures) (found .before .if1 .taken) (found .record-at2 .ensures))
+    omega (arith, record-some _ _ (tested .record-from .ensures) (found .before .if1 .taken) (found .record-from2 .ensures))
 
 loop-again : tie.Need-loop-again Inv-loop μ-loop
 loop-again c =
     let judging = c .before .before in
     let found = judging .before .before in
     let tested = found .before .before in
-    surveying-more (tested .before .loop .inv) (tested .record-at .ensures) (found .before .if1 .taken) (found .record-at2 .ensures) (judging .before .line-of .ensures) (search needs) (judging .judge-record .ensures) (c .enum-told .given .1)
+    surveying-more (tested .before .loop .inv) (tested .record-from .ensures) (found .before .if1 .taken) (found .record-from2 .ensures) (judging .before .line-of .ensures) (search needs) (judging .judge-record .ensures) (c .enum-told .given .1)
+
+cast-if2 : tie.Need-cast-if2 Inv-loop μ-loop
+cast-if2 c =
+    omega (arith, apart-few (c .before .before .loop .inv .apart))
 
 returns-2 : tie.Need-returns-2 Inv-loop μ-loop
 returns-2 c =
     let tested = c .before .before .before in
-    surveying-cut (tested .before .loop .inv) (tested .record-at .ensures) (omega arith) (omega arith) (c .refused2 .ensures)
+    surveying-cut (tested .before .loop .inv) (tested .record-from .ensures) (omega arith) (omega arith) (c .refused2 .ensures)
 
 returns-3 : tie.Need-returns-3 Inv-loop μ-loop
 returns-3 c =
@@ -75,8 +71,8 @@ survey-records-spec =
     Inv-loop
     μ-loop
     loop-holds
-    record-at-requires
-    record-at-requires-2
+    (λ c κs. search needs)
+    (λ c κs. search needs)
     (λ c κs. search needs)
     (λ c. search needs)
     (λ c. search needs)
@@ -86,12 +82,13 @@ survey-records-spec =
     (λ c κs. search needs)
     returns
     (λ c. search needs)
-    cast-starts
     (λ c. search needs)
     (λ c. search needs)
+    cast-from
     add-from
     loop-less
     loop-again
+    cast-if2
     (λ c κs. search needs)
     returns-2
     returns-3)

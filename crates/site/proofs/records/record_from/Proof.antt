@@ -7,25 +7,25 @@ use borrow.Author.Needs.{needs}
 use borrow.Author.Tests.{le-leb, lt-leb}
 use Rattle.site.specs.Records.{recordSize, firstRecord}
 use Rattle.site.specs.Starts.{recordFrom}
-use Rattle.site.proofs.records.record_at.Statement.{statement}
-use Rattle.site.proofs.records.record_at.Tie as tie
+use Rattle.site.proofs.records.record_from.Statement.{statement}
+use Rattle.site.proofs.records.record_from.Tie as tie
 
 returns : tie.Need-returns
 unfolding recordFrom firstRecord recordSize
 returns c =
     let asked = c .before .before .args in
-    let left = length-drop (asked .from) (asked .site .now) in
-    rw (le-leb 12 (length (drop (asked .from) (asked .site .now))) (omega (arith, left)), add-sub-cancel-left) refl
+    let left = length-drop (asked .start) (asked .site .now) in
+    rw (le-leb 12 (length (drop (asked .start) (asked .site .now))) (omega (arith, left)), add-sub-cancel-left) refl
 
 returns-2 : tie.Need-returns-2
 unfolding recordFrom firstRecord recordSize
 returns-2 c =
     let asked = c .before .before .args in
-    let left = length-drop (asked .from) (asked .site .now) in
-    rw (lt-leb 12 (length (drop (asked .from) (asked .site .now))) (omega (arith, left))) refl
+    let left = length-drop (asked .start) (asked .site .now) in
+    rw (lt-leb 12 (length (drop (asked .start) (asked .site .now))) (omega (arith, left))) refl
 
-pub record-at-spec : {M : Type 1} → statement M
-record-at-spec =
+pub record-from-spec : {M : Type 1} → statement M
+record-from-spec =
     tie.close
     (tie.spec
     (λ c. search needs)
