@@ -11,7 +11,7 @@ use Rattle.passing.specs.Settings.{classOf, isCode, isRow, areCodes, asksTable,
 use Rattle.passing.specs.Passing.{isOwn, isInTable, isBelow, isOnward, isRuled, mayPass}
 use Rattle.coupler.specs.Memory.{isRepetition}
 use Rattle.coupler.specs.Step.{heard, acknowledgementBy, formOf}
-use Rattle.site.specs.Records.{recordSize, recordsOf, isMarked, codesOf, couplerOf}
+use Rattle.site.specs.Records.{recordSize, firstRecord, recordsOf, isMarked, codesOf, couplerOf}
 use Rattle.site.specs.Stores.{isStored, tableAt, tableOf, isStore, areStores}
 use Rattle.site.specs.WellFormed.{hasTable, siteTests}
 use Rattle.site.specs.Letting.{recordPasses, lineLetsPass}
@@ -21,5 +21,5 @@ use Rattle.tracer.specs.Listing.{lasts, isListed, entry, listed, linesListed, i
 use Rattle.promises.specs.Telegrams.{Every, cases}
 
 pub every : Every cases
-unfolding checkOctet isControl controlOf ctrleOf fieldsMeaning head sealed tp1Octets isExtended headSize isOtherFormat isEscape frameSize isChecked meaningIn readTp1 body isOtherBody isEscapeBody isLongStandard bodySize messageIn isOtherHeader isOtherService isOtherLength readRouting classOf isCode isRow areCodes asksTable tableFits isOwn isInTable isBelow isOnward isRuled mayPass isRepetition heard acknowledgementBy formOf recordSize recordsOf isMarked codesOf couplerOf isStored tableAt tableOf isStore areStores hasTable siteTests recordPasses lineLetsPass mainSide depth mainSides path distance lasts isListed onArrival entry listed linesListed isForwarding forwardings
+unfolding checkOctet isControl controlOf ctrleOf fieldsMeaning head sealed tp1Octets isExtended headSize isOtherFormat isEscape frameSize isChecked meaningIn readTp1 body isOtherBody isEscapeBody isLongStandard bodySize messageIn isOtherHeader isOtherService isOtherLength readRouting classOf isCode isRow areCodes asksTable tableFits isOwn isInTable isBelow isOnward isRuled mayPass isRepetition heard acknowledgementBy formOf recordSize firstRecord recordsOf isMarked codesOf couplerOf isStored tableAt tableOf isStore areStores hasTable siteTests recordPasses lineLetsPass mainSide depth mainSides path distance lasts isListed onArrival entry listed linesListed isForwarding forwardings
 every = ((refl, refl), ((refl, refl), ((refl, refl), ((refl, refl), ((refl, refl), ((refl, refl), ((refl, refl), ((refl, refl), ((refl, refl), ((refl, refl), ((refl, refl), ((refl, refl), ((refl, refl), ((refl, refl), ((refl, refl), ((refl, refl), ((refl, refl), tt)))))))))))))))))
