@@ -1,14 +1,14 @@
 -- Laws of the tree of lines and of the path between two of them. Every law about main sides goes by `by-mains`: from 00h, and from a
 -- line's main side to the line.
 use Prim.Native.Nat.{ℕ, zero, suc, _+_, _%_, _≤_, _<_}
-use mathlib.Core.Bool.{true, false, not}
+use mathlib.Core.Bool.{Bool, true, false, not, _||_}
 use mathlib.Core.List.{List, [], _∷_, _++_, append-assoc}
 use mathlib.Core.Path.{_≡_, refl, sym, ap, _∙_, subst}
 use native.Mathlib.Omega.{arith}
 use lib.Dec.{eqb}
 use lib.ListN.{length, length-append}
 use borrow.Author.Tests.{eqb-true, eqb-false, eq-eqb, ne-eqb}
-use Rattle.octets.proofs.Truth.{by-cases, never, or-right, or-false, or-cases}
+use Rattle.octets.proofs.Truth.{by-cases, never, or-no, or-right, or-false, or-cases}
 use Rattle.site.specs.WellFormed.{isAmong}
 use Rattle.tracer.specs.Lines.{mainSide, depth, mainSides, beforeCommon, Crossing, up, down, upOver, downOver, cameOver, path, distance}
 use Rattle.tracer.specs.Reaching.{climbing}
@@ -87,6 +87,30 @@ on-self n =
     by-cases (eqb n 0)
     (λ q. rw (eqb-true n 0 q, mains-zero) refl)
     (λ q. rw (mains-cons n (eqb-false n 0 q)) (rw (eq-eqb n n refl) refl))
+
+-- at most three lines stand on the way: a line, its main side, 00h
+three-or : (a b x z : Bool) → x ≡ z → a || b || z ≡ a || (b || (x || false))
+three-or true b x z e = refl
+three-or false true x z e = refl
+three-or false false x z e = sym e ∙ sym (or-no x)
+
+two-or : (a x z : Bool) → x ≡ z → a || x || z ≡ a || (x || false)
+two-or true x z e = refl
+two-or false true z e = refl
+two-or false false z e = sym e
+
+one-or : (x z : Bool) → x ≡ z → x || x || z ≡ x || false
+one-or true z e = refl
+one-or false z e = sym e
+
+pub three-sides : (t n : ℕ) → eqb n t || eqb (mainSide n) t || eqb t 0 ≡ isAmong t (mainSides n)
+three-sides t n =
+    let zero-is : eqb 0 t ≡ eqb t 0 = by-cases (eqb t 0) (λ q. rw (eqb-true t 0 q) refl) (λ q. ne-eqb 0 t (λ z. eqb-false t 0 q (sym z)) ∙ sym q) in
+    by-cases (eqb n 0)
+    (λ q. rw (eqb-true n 0 q, flat-main 0 refl, mains-zero) (one-or (eqb 0 t) (eqb t 0) zero-is))
+    (λ q. by-cases (eqb (mainSide n) 0)
+    (λ w. rw (mains-cons n (eqb-false n 0 q), eqb-true (mainSide n) 0 w, mains-zero) (two-or (eqb n t) (eqb 0 t) (eqb t 0) zero-is))
+    (λ w. rw (mains-cons n (eqb-false n 0 q), mains-cons (mainSide n) (eqb-false (mainSide n) 0 w), main-main n, mains-zero) (three-or (eqb n t) (eqb (mainSide n) t) (eqb 0 t) (eqb t 0) zero-is)))
 
 pub on-zero : (n : ℕ) → isAmong 0 (mainSides n) ≡ true
 on-zero = by-mains (λ n. isAmong 0 (mainSides n) ≡ true) (rw mains-zero refl) (λ n h ih. rw (mains-cons n h) (or-right (eqb n 0) _ ih))

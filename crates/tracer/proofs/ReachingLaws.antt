@@ -14,7 +14,7 @@ use borrow.Author.Tests.{eqb-true, eqb-false, lt-ltb, eq-eqb, ne-eqb}
 use Rattle.octets.proofs.Truth.{by-cases, never, and-false}
 use Rattle.site.specs.WellFormed.{isAmong}
 use Rattle.tracer.proofs.CountLaws.{lasts-none, lasts-less}
-use Rattle.tracer.proofs.Paths.{main-below, depth-main, mains-zero, mains-cons, on-self, on-zero, on-next, before-on, before-off, path-climb, path-down, distance-four}
+use Rattle.tracer.proofs.Paths.{main-below, depth-main, on-zero, on-next, before-on, before-off, path-climb, path-down, distance-four}
 use Rattle.tracer.specs.Lines.{mainSide, depth, mainSides, beforeCommon, Crossing, upOver, path, distance}
 use Rattle.tracer.specs.Listing.{allPass, lasts, isListed, countBelow}
 use Rattle.tracer.specs.Reaching.{handed, along, reach, marked, climbing, reachBy, isForwardedTo, Spread}
@@ -98,18 +98,6 @@ reach-by d u lines s c t h =
 
 pub less-deep : {n m : ℕ} → (n ≡ 0 → ⊥) → m ≡ mainSide n → depth m < depth n
 less-deep {n} h e = omega (arith, ap depth e, depth-main n h)
-
--- whether a line stands above another, from that one up
-module _ {line other : ℕ} where
-  pub above-self : other ≡ line → true ≡ isAmong line (mainSides other)
-  above-self e = rw e (sym (on-self line))
-
-  pub above-none : (other ≡ line → ⊥) → other ≡ 0 → false ≡ isAmong line (mainSides other)
-  above-none d z = rw (z, mains-zero, ne-eqb 0 line (λ e. d (z ∙ e))) refl
-
-  pub above-more : {main : ℕ} {r : Bool} → (other ≡ line → ⊥) → (other ≡ 0 → ⊥) → main ≡ mainSide other → r ≡ isAmong line (mainSides main)
-      → r ≡ isAmong line (mainSides other)
-  above-more d z e k = rw (mains-cons other z, ne-eqb other line d, ← e) k
 
 -- the way up, coupler after coupler
 module _ {from top : ℕ} where
