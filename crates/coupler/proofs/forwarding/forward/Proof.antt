@@ -35,6 +35,7 @@ forward-spec =
     (λ c κs. search needs)
     (λ c κs. search needs)
     (λ c κs. search needs)
+    -- what each arm leaves
     (λ c. search needs)
     returns
     (λ c. search needs)
