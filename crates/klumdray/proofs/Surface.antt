@@ -20,7 +20,7 @@ use Rattle.tracer.specs.declared.Query.{Query}
 use Rattle.frame.specs.declared.Written.the-variants.{Put, Refused as Unwritten}
 
 -- a size that is written has a number
-pub sized : {ranged : Bool} {octets room after : List ℕ} (w : Written) → Wrote ranged octets room w after → (ranged ≡ true → length octets < 2 ^ 16) → Sized w
+pub sized : {ranged : Bool} {octets room after : List ℕ} (w : Written) → Wrote ranged octets room w after → (ranged ≡ true → length octets ≤ 270) → Sized w
 sized {ranged} {octets} {room} (Put n) x h =
     let e = put-iff ranged octets room n .0 (sym (x .answered)) in
     omega (arith, h (e .0))
@@ -30,6 +30,10 @@ pub wrote-number : {flags ranged : Bool} {octets room after : List ℕ} {r : ℕ
 wrote-number {flags} {ranged} {octets} {room} w f x e =
     let a : w ≡ written (flags && ranged) octets room = rw f (x .answered) in
     record { answered = e ∙ ap writtenNumber a; left = x .left ∙ ap (λ (v : Written). roomAfter v octets room) a }
+
+-- a test of the flags as the code makes it
+pub tested : {flags flag b : Bool} (marks : Bool) → flag ≡ flags → flag && marks ≡ b → flags && marks ≡ b
+tested marks e h = rw (← e) h
 
 pub flags-refused : (flags ranged : Bool) (octets room : List ℕ) → flags ≡ false → WroteNumber (flags && ranged) octets room 14 room
 flags-refused flags ranged octets room f =

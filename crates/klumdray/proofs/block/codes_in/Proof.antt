@@ -5,7 +5,10 @@ use Rattle.klumdray.proofs.block.codes_in.Tie as tie
 
 returns : tie.Need-returns
 returns c =
-    rw (c .before .before .before .before .before .before .before .octet .ensures, c .before .before .before .before .before .before .octet2 .ensures, c .before .before .before .before .before .octet3 .ensures, c .before .before .before .before .octet4 .ensures, c .before .before .before .octet5 .ensures, c .before .before .octet6 .ensures, c .before .octet7 .ensures, c .octet8 .ensures)
+    let down = c .before .before .before .before in
+    rw (
+    down .before .before .before .octet .ensures, down .before .before .octet2 .ensures, down .before .octet3 .ensures, down .octet4 .ensures,
+    c .before .before .before .octet5 .ensures, c .before .before .octet6 .ensures, c .before .octet7 .ensures, c .octet8 .ensures)
 
 pub codes-in-spec : {M : Type 1} → statement M
 codes-in-spec =
