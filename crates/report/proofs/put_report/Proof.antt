@@ -7,17 +7,16 @@ use Rattle.report.proofs.put_report.Tie as tie
 
 returns : tie.Need-returns
 returns c =
-    puts-as (sym (report-few (c .before .before .before .before .before .before .before .args .input .now) (c .before .before .before .before .if1 .taken))) (c .before .before .put-refused .ensures)
+    puts-as (sym (report-few _ (c .before .before .before .before .if1 .taken))) (c .before .before .put-refused .ensures)
 
 returns-2 : tie.Need-returns-2
 returns-2 c =
-    let back = c .before .before .before .before .before .before in
-    puts-as (sym (report-many (back .before .before .args .input .now) (c .before .before .before .before .if2 .taken))) (c .before .before .put-refused2 .ensures)
+    puts-as (sym (report-many _ (c .before .before .before .before .if2 .taken))) (c .before .before .put-refused2 .ensures)
 
 returns-3 : tie.Need-returns-3
 returns-3 c =
-    let back = c .before .before .before .before .before .before in
-    puts-as (sym (report-traced (back .before .before .args .input .now) (c .before .before .before .before .before .if1 .left) (c .before .before .before .before .if2 .left))) (c .before .before .put-trace .ensures)
+    let tests = c .before .before .before .before in
+    puts-as (sym (report-traced _ (tests .before .if1 .left) (tests .if2 .left))) (c .before .before .put-trace .ensures)
 
 pub put-report-spec : {M : Type 1} → statement M
 put-report-spec =

@@ -7,30 +7,26 @@ use Rattle.report.proofs.text.put_line.Tie as tie
 put-decimal-requires : tie.Need-put-decimal-requires
 put-decimal-requires c κs =
     let begun = c .before .before in
-    let a = begun .args in
-    fits-area (a .line) (a .count) (a .crossed) (a .at) (a .room .now) (begun .pre)
+    fits-area _ _ _ _ (begun .args .room .now) (begun .pre)
 
 put-told-requires : tie.Need-put-told-requires
 put-told-requires c κs =
     let back = c .before .before .before .before .before .before in
     let begun = back .before in
-    let a = begun .args in
-    fits-point (a .line) (a .count) (a .crossed) (a .at) (a .room .now) (begun .pre) (c .before .before .before .before .put-decimal .ensures)
+    fits-point _ _ _ _ _ (begun .pre) (c .before .before .before .before .put-decimal .ensures)
 
 put-told-requires-2 : tie.Need-put-told-requires-2
 put-told-requires-2 c κs =
     let back = c .before .before .before .before .before .before in
     let begun = back .before .before .before .before .before .before in
-    let a = begun .args in
-    fits-count (a .line) (a .count) (a .crossed) (a .at) (a .room .now) (begun .pre) (back .before .before .before .put-decimal .ensures) (c .before .before .before .before .put-told .ensures)
+    fits-count _ _ _ _ _ (begun .pre) (back .before .before .before .put-decimal .ensures) (c .before .before .before .before .put-told .ensures)
 
 put-told-requires-3 : tie.Need-put-told-requires-3
 put-told-requires-3 c κs =
     let back = c .before .before .before .before .before .before in
     let further = back .before .before .before .before .before .before in
     let begun = further .before .before .before .before .before in
-    let a = begun .args in
-    fits-crossed (a .line) (a .count) (a .crossed) (a .at) (a .room .now) (begun .pre) (further .before .before .put-decimal .ensures) (back .before .before .before .put-told .ensures) (c .before .before .before .before .put-told2 .ensures)
+    fits-crossed _ _ _ _ _ (begun .pre) (further .before .before .put-decimal .ensures) (back .before .before .before .put-told .ensures) (c .before .before .before .before .put-told2 .ensures)
 
 put-requires : tie.Need-put-requires
 put-requires c κs =
@@ -38,18 +34,18 @@ put-requires c κs =
     let further = back .before .before .before .before .before .before in
     let furthest = further .before .before .before .before .before .before in
     let begun = furthest .before .before .before .before in
-    let a = begun .args in
-    fits-end (a .line) (a .count) (a .crossed) (a .at) (a .room .now) (begun .pre) (furthest .before .put-decimal .ensures) (further .before .before .put-told .ensures) (back .before .before .before .put-told2 .ensures) (c .before .before .before .before .put-told3 .ensures)
+    fits-end _ _ _ _ _ (begun .pre) (furthest .before .put-decimal .ensures) (further .before .before .put-told .ensures) (back .before .before .before .put-told2 .ensures) (c .before .before .before .before .put-told3 .ensures)
 
 returns : tie.Need-returns
 returns c =
     let back = c .before .before .before .before .before .before in
     let further = back .before .before .before .before .before .before in
     let furthest = further .before .before .before .before .before .before in
-    let first = furthest .before .before .before .before .before .before in
-    let begun = first .before in
-    let a = begun .args in
-    put-line (a .line) (a .count) (a .crossed) (a .at) (a .room .now) (begun .pre) (furthest .before .before .before .before .put-decimal .ensures) (further .before .before .before .before .before .put-told .ensures) (back .before .before .before .before .before .before .put-told2 .ensures) (back .before .put-told3 .ensures) (c .before .before .put .ensures)
+    let first = furthest .before .before .before .before in
+    let begun = first .before .before .before in
+    let named = further .before .before .before .before .before .put-told in
+    let counted = back .before .before .before .before .before .before .put-told2 in
+    put-line _ _ _ _ _ (begun .pre) (first .put-decimal .ensures) (named .ensures) (counted .ensures) (back .before .put-told3 .ensures) (c .before .before .put .ensures)
 
 pub put-line-spec : {M : Type 1} → statement M
 put-line-spec =
