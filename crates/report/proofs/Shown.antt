@@ -24,5 +24,8 @@ abbrev firstOfP12 : List ℕ
 firstOfP12 = 0x47 ∷ 1 ∷ 0x12 ∷ 0x34 ∷ 2 ∷ openCoupler 0x20 ++ openCoupler 0x40 ++ openCoupler 0x45 ++ openCoupler 0x47
 
 pub shown : reportOf firstOfP12 ≡ ascii "0.0 count 0 crossed 2\n4.0 count 1 crossed 1\n4.5 count 0 crossed 2\n4.7 count 2 crossed 0\nforwardings 3\n"
-unfolding isOnward isOwn isInTable isRuled mayPass classOf isCode isRow areCodes asksTable recordPasses lineLetsPass recordSize firstRecord recordsOf isMarked codesOf couplerOf isStored tableAt tableOf isStore areStores hasTable siteTests mainSide depth mainSides path distance lasts isListed onArrival entry listed isForwarding forwardings queryTests answerText reportOf decimal told toldLine lineText
+unfolding isOnward isOwn isInTable isRuled mayPass classOf isCode isRow areCodes asksTable
+    recordPasses lineLetsPass recordSize firstRecord recordsOf isMarked codesOf couplerOf isStored tableAt tableOf isStore areStores hasTable siteTests
+    mainSide depth mainSides path distance lasts isListed onArrival entry listed isForwarding forwardings
+    queryTests answerText reportOf decimal told toldLine lineText
 shown = refl
