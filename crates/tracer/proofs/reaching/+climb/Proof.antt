@@ -26,86 +26,32 @@ climb-at t = and 1 climb-kinds.ps (is 1 climb-kinds.ps μ-climb t) climb.Pre
 abbrev climb-below : ℕ → In 1 climb-kinds.ps
 climb-below t = and 1 climb-kinds.ps (falls 1 climb-kinds.ps _<_ μ-climb t) climb.Pre
 
-climb-returns : (t : ℕ) → climb-lts.Need-returns (
-  hand-reads.Asked,
-  hand-reads.Learnt,
-  main-side-reads.Asked,
-  main-side-reads.Learnt,
-  climb-below t,
-  climb.Post,
-) (climb-at t) climb.Post
+abbrev known : ℕ → climb-lts.Claims
+known t = (hand-reads.Asked, hand-reads.Learnt, main-side-reads.Asked, main-side-reads.Learnt, climb-below t, climb.Post)
+
+climb-returns : (t : ℕ) → climb-lts.Need-returns (known t) (climb-at t) climb.Post
 climb-returns t c = rw (climb-none (c .if1 .taken)) refl
 
-climb-element-copy-out-hand : (t : ℕ) → climb-lts.Need-element-copy-out-hand (
-  hand-reads.Asked,
-  hand-reads.Learnt,
-  main-side-reads.Asked,
-  main-side-reads.Learnt,
-  climb-below t,
-  climb.Post,
-) (climb-at t) climb.Post
-climb-element-copy-out-hand t c = search needs
-
-climb-hand-requires : (t : ℕ) → climb-lts.Need-hand-requires (
-  hand-reads.Asked,
-  hand-reads.Learnt,
-  main-side-reads.Asked,
-  main-side-reads.Learnt,
-  climb-below t,
-  climb.Post,
-) (climb-at t) climb.Post
+climb-hand-requires : (t : ℕ) → climb-lts.Need-hand-requires (known t) (climb-at t) climb.Post
 climb-hand-requires t c κs = omega (arith, c .before .before .pre .1 .1)
 
-climb-main-side-requires : (t : ℕ) → climb-lts.Need-main-side-requires (
-  hand-reads.Asked,
-  hand-reads.Learnt,
-  main-side-reads.Asked,
-  main-side-reads.Learnt,
-  climb-below t,
-  climb.Post,
-) (climb-at t) climb.Post
-climb-main-side-requires t c κs = search needs
-
-climb-climb-requires : (t : ℕ) → climb-lts.Need-climb-requires (
-  hand-reads.Asked,
-  hand-reads.Learnt,
-  main-side-reads.Asked,
-  main-side-reads.Learnt,
-  climb-below t,
-  climb.Post,
-) (climb-at t) climb.Post
+climb-climb-requires : (t : ℕ) → climb-lts.Need-climb-requires (known t) (climb-at t) climb.Post
 climb-climb-requires t c κs =
     let b = c .before .before .before .before in
     let d = c .before .before .before .if1 .left in
     let less = climb-less d (b .pre .1 .0) (c .main-side .ensures) in
     (omega (arith, less, b .pre .0), (climb-on d (b .pre .1 .0) (c .main-side .ensures), omega (arith, less, b .pre .1 .1, c .before .hand .ensures, handed-most (b .args .count) (b .args .lines) (getD (b .args .up .now) (b .args .from) false))))
 
-climb-returns-2 : (t : ℕ) → climb-lts.Need-returns-2 (
-  hand-reads.Asked,
-  hand-reads.Learnt,
-  main-side-reads.Asked,
-  main-side-reads.Learnt,
-  climb-below t,
-  climb.Post,
-) (climb-at t) climb.Post
+climb-returns-2 : (t : ℕ) → climb-lts.Need-returns-2 (known t) (climb-at t) climb.Post
 climb-returns-2 t c =
     let b = c .before .before .before .before .before in
     climb-more (c .before .before .before .before .if1 .left) (b .pre .1 .0) (c .before .main-side .ensures) (b .args .up .now) (b .args .count) (b .args .lines) (c .before .before .hand .ensures) (c .climb .ensures)
 
 pub +climb-spec : {M : Type 1} → statement M
-+climb-spec = close μ-climb λ t. climb-lts.spec (
-  hand-reads.Asked,
-  hand-reads.Learnt,
-  main-side-reads.Asked,
-  main-side-reads.Learnt,
-  climb-below t,
-  climb.Post,
-)
-    (climb-at t)
-    climb.Post
++climb-spec = close μ-climb λ t. climb-lts.spec (known t) (climb-at t) climb.Post
     (climb-returns t)
-    (climb-element-copy-out-hand t)
+    (λ c. search needs)
     (climb-hand-requires t)
-    (climb-main-side-requires t)
+    (λ c κs. search needs)
     (climb-climb-requires t)
     (climb-returns-2 t)
