@@ -252,13 +252,10 @@ module _ (stop : Stop) (x : Stops stop) where
       tells-accepted (field 0 (omega arith)) (λ r e. let z : _≡_ {A = ℕ} 0 1 = cc in absurd (omega arith)) (below stopFields (explanationNumber (NotReached stop)) stop-fit stop-packed)
       (rw (field 0 (omega arith), field 1 (omega arith), field 2 (omega arith), field 3 (omega arith), x .reason))
 
-explanation-apart : (q r : Refusal) → _≡_ {A = Explanation} (Refused q) (Refused r) → q ≡ r
-explanation-apart q r e = cc
-
 explanation-answer : (a : Explanation) → ((stop : Stop) → a ≡ NotReached stop → Stops stop) → Tells 25 explanationFrom (explanationNumber a) (explanationNumbered a) (λ r. a ≡ Refused r)
 explanation-answer Reached h = tells-accepted refl (λ r e. let z : _≡_ {A = ℕ} 0 1 = cc in absurd (omega arith)) (omega arith) refl
 explanation-answer (NotReached stop) h = stop-told stop (h stop refl)
-explanation-answer (Refused q) h = tells-refused q refl refl (explanation-apart q) (omega arith) (rw (number-alone q, refused-number q))
+explanation-answer (Refused q) h = tells-refused q refl refl (λ r e. cc) (omega arith) (rw (number-alone q, refused-number q))
 
 zero-reached : (a : Explanation) → ((stop : Stop) → a ≡ NotReached stop → Stops stop) → explanationNumber a ≡ 0 → a ≡ Reached
 zero-reached Reached h e = refl
