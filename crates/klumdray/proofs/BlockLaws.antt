@@ -136,9 +136,13 @@ remembered-block block s side n k =
   where
     put : (A B : List ℕ) → length A ≡ 265 → length B ≡ 265 → Octets A × Octets B → (b : Bool) → eqb side 0 ≡ b → rememberedAt (cond (eqb side 0) 0 265) s (A ++ B) ≡ blockOf (rememberedOn (memoryIn (A ++ B)) side s)
     put A B na nb q true e =
-        rw e (remembered-main A B na nb s k ∙ ap (λ (l : List ℕ). l ++ B) (half-remembered A s na k) ∙ ap (λ (l : List ℕ). halfOf (remembering (rememberedIn A) s) ++ l) (sym (half-back B nb (q .1))) ∙ sym (ap (λ (m : Memory). halfOf (remembering (m .main) s) ++ halfOf (m .sub)) (split-memory A B na nb)))
+        let put = halfOf (remembering (rememberedIn A) s) in
+        let split = ap (λ (m : Memory). halfOf (remembering (m .main) s) ++ halfOf (m .sub)) (split-memory A B na nb) in
+        rw e (remembered-main A B na nb s k ∙ ap (λ (l : List ℕ). l ++ B) (half-remembered A s na k) ∙ ap (λ (l : List ℕ). put ++ l) (sym (half-back B nb (q .1))) ∙ sym split)
     put A B na nb q false e =
-        rw e (remembered-sub A B na nb s k ∙ ap (λ (l : List ℕ). A ++ l) (half-remembered B s nb k) ∙ ap (λ (l : List ℕ). l ++ halfOf (remembering (rememberedIn B) s)) (sym (half-back A na (q .0))) ∙ sym (ap (λ (m : Memory). halfOf (m .main) ++ halfOf (remembering (m .sub) s)) (split-memory A B na nb)))
+        let put = halfOf (remembering (rememberedIn B) s) in
+        let split = ap (λ (m : Memory). halfOf (m .main) ++ halfOf (remembering (m .sub) s)) (split-memory A B na nb) in
+        rw e (remembered-sub A B na nb s k ∙ ap (λ (l : List ℕ). A ++ l) (half-remembered B s nb k) ∙ ap (λ (l : List ℕ). l ++ put) (sym (half-back A na (q .0))) ∙ sym split)
 
 -- the block that the code leaves is the memory of the step inside: a remembered frame fits its half
 pub memory-block : (k : Coupler) (remembered block s : List ℕ) (h : Heard) → length block ≡ 530 → Octets block → ((m : Meaning) (p : List ℕ) → h ≡ frame m p → fromIp k ≡ false → length s ≤ 263)
@@ -176,5 +180,6 @@ unfolding heardThrough outcomeNumber
 stepped-wrong k block s room = record { answered = refl; left = refl; memory = refl }
 
 -- two outcomes that the contract allows coincide
-pub stepped-one : {right : Bool} {k : Coupler} {block s room : List ℕ} {r₁ r₂ : ℕ} {b₁ b₂ a₁ a₂ : List ℕ} → SteppedThrough right k block s room r₁ b₁ a₁ → SteppedThrough right k block s room r₂ b₂ a₂ → (r₁ ≡ r₂) × ((b₁ ≡ b₂) × (a₁ ≡ a₂))
+pub stepped-one : {right : Bool} {k : Coupler} {block s room : List ℕ} {r₁ r₂ : ℕ} {b₁ b₂ a₁ a₂ : List ℕ}
+    → SteppedThrough right k block s room r₁ b₁ a₁ → SteppedThrough right k block s room r₂ b₂ a₂ → (r₁ ≡ r₂) × ((b₁ ≡ b₂) × (a₁ ≡ a₂))
 stepped-one x y = (x .answered ∙ sym (y .answered), (x .memory ∙ sym (y .memory), x .left ∙ sym (y .left)))

@@ -92,7 +92,8 @@ module _ (codes : Codes) (t : List ℕ) (x : Message) (o : Octets t) (e : readCe
 
 module _ (s : List ℕ) (o : Octets s) where
   pub cemi-parts : numberIn (cemiAnswered s) ≡ 0
-      → MessageParts s (cemiAnswered s) cemiInformationStart (cemiInformationLength (cemiAnswered s) (length s)) (informationAt (readCemi All s) s) (informationIn (readCemi All s) s) (cemiPayloadAt (readCemi All s) s) (cemiPayload (readCemi All s) s)
+      → MessageParts s (cemiAnswered s) cemiInformationStart (cemiInformationLength (cemiAnswered s) (length s))
+        (informationAt (readCemi All s) s) (informationIn (readCemi All s) s) (cemiPayloadAt (readCemi All s) s) (cemiPayload (readCemi All s) s)
   cemi-parts z = go (readCemi All s) refl
     where
       go : (c : CemiAnswer) → readCemi All s ≡ c
@@ -117,11 +118,13 @@ module _ (s : List ℕ) (o : Octets s) where
   }
 
   pub routing-parts : numberIn (routingAnswered s) ≡ 0
-      → MessageParts s (routingAnswered s) routingInformationStart (routingInformationLength (routingAnswered s) (length s)) (routedInformationAt (readRouting s) s) (routedInformation (readRouting s) s) (routedPayloadAt (readRouting s) s) (routedPayload (readRouting s) s)
+      → MessageParts s (routingAnswered s) routingInformationStart (routingInformationLength (routingAnswered s) (length s))
+        (routedInformationAt (readRouting s) s) (routedInformation (readRouting s) s) (routedPayloadAt (readRouting s) s) (routedPayload (readRouting s) s)
   routing-parts z = go (readRouting s) refl
     where
       go : (c : CemiAnswer) → readRouting s ≡ c
-          → MessageParts s (routingAnswered s) routingInformationStart (routingInformationLength (routingAnswered s) (length s)) (routedInformationAt c s) (routedInformation c s) (routedPayloadAt c s) (routedPayload c s)
+          → MessageParts s (routingAnswered s) routingInformationStart (routingInformationLength (routingAnswered s) (length s))
+            (routedInformationAt c s) (routedInformation c s) (routedPayloadAt c s) (routedPayload c s)
       go (Message-is x) e =
           let t : List ℕ = drop 6 s in
           let q : List ℕ = cemiPayload (Message-is x) t in
@@ -133,8 +136,8 @@ module _ (s : List ℕ) (o : Octets s) where
           let h : 6 ≤ length s = omega arith in
           let start : messagePayloadStart (routingAnswered s) (length s) ≡ 6 + (9 + informationSize t) = omega arith in
           rw (le-leb 6 (length s) h) (record {
-            information = behind 2 (routingInformationLength (routingAnswered s) (length s)) (informationAt (Message-is x) t) (informationIn (Message-is x) t) h (information-lies IndicationOnly t x ot f (routingInformationLength (routingAnswered s) (length s)) (omega arith));
-            payload = rw start (behind (9 + informationSize t) (payloadLengthIn (routingAnswered s)) (cemiPayloadAt (Message-is x) t) q h (payload-lies IndicationOnly t x ot f (9 + informationSize t) (payloadLengthIn (routingAnswered s)) refl k));
+            information = behind 2 _ _ _ h (information-lies IndicationOnly t x ot f (routingInformationLength (routingAnswered s) (length s)) (omega arith));
+            payload = rw start (behind (9 + informationSize t) _ _ _ h (payload-lies IndicationOnly t x ot f (9 + informationSize t) (payloadLengthIn (routingAnswered s)) refl k));
             between = omega arith;
             end = omega arith;
           })

@@ -150,7 +150,8 @@ heard-least s m p o = go (readTp1 s) refl
         omega (arith, ap length (w .layout) ∙ length-octets x l, head-least (x .extended), ranges-of x (length l) (w .valid .ranges) .some)
     go (Refused r) q z = frame-nothing z
 
-module _ {right : Bool} {k : Coupler} {block s room : List ℕ} {answer : ℕ} {block′ room′ : List ℕ} (lent : right ≡ true → length block ≡ 530) (os : Octets s) (w : SteppedThrough right k block s room answer block′ room′) where
+module _ {right : Bool} {k : Coupler} {block s room : List ℕ} {answer : ℕ} {block′ room′ : List ℕ}
+    (lent : right ≡ true → length block ≡ 530) (os : Octets s) (w : SteppedThrough right k block s room answer block′ room′) where
   accepted : numberIn answer ≡ 0 → Accepted right (heard k s (length room))
   accepted z = through-accepted right k s (length room) (step-told os w .accepted .0 z)
 
@@ -192,11 +193,13 @@ module _ {right : Bool} {k : Coupler} {block s room : List ℕ} {answer : ℕ} {
       let a : length (take 265 block) ≡ 265 = length-take-le 265 block (omega (arith, x .size)) in
       let b : length (drop 265 block) ≡ 265 = length-drop 265 block ∙ omega (arith, x .size) in
       let r = recalls-put (memoryIn block) (k .setting .side) s (x .side) (octets-263 (take 265 block) a) (octets-263 (drop 265 block) b) (x .fits) in
-      let n : length block′ ≡ 530 = ap length (x .put) ∙ block-length (rememberedOn (memoryIn block) (k .setting .side) s) (r .main) (r .sub) in
-      let m : memoryIn block′ ≡ rememberedOn (memoryIn block) (k .setting .side) s = ap memoryIn (x .put) ∙ block-read (rememberedOn (memoryIn block) (k .setting .side) s) (r .main) (r .sub) in
-      let e : take (rememberedSize block′ (k .setting .side)) (drop (rememberedStart (k .setting .side)) block′) ≡ s = remembered-is block′ (k .setting .side) n (x .side) ∙ ap (λ (y : Memory). recalled (sideOf y (k .setting .side))) m ∙ r .frame in
-      let l : length (take (rememberedSize block′ (k .setting .side)) (drop (rememberedStart (k .setting .side)) block′)) ≡ rememberedSize block′ (k .setting .side) =
-      length-take-le (rememberedSize block′ (k .setting .side)) (drop (rememberedStart (k .setting .side)) block′) (rw length-drop (omega (arith, n, remembered-within block′ (k .setting .side) n (x .side)))) in
+      let held : Memory = rememberedOn (memoryIn block) (k .setting .side) s in
+      let n : length block′ ≡ 530 = ap length (x .put) ∙ block-length held (r .main) (r .sub) in
+      let m : memoryIn block′ ≡ held = ap memoryIn (x .put) ∙ block-read held (r .main) (r .sub) in
+      let size : ℕ = rememberedSize block′ (k .setting .side) in
+      let from : List ℕ = drop (rememberedStart (k .setting .side)) block′ in
+      let e : take size from ≡ s = remembered-is block′ (k .setting .side) n (x .side) ∙ ap (λ (y : Memory). recalled (sideOf y (k .setting .side))) m ∙ r .frame in
+      let l : length (take size from) ≡ size = length-take-le size from (rw length-drop (omega (arith, n, remembered-within block′ (k .setting .side) n (x .side)))) in
       (x .least, (sym l ∙ ap length e, e))
 
   -- a refused step leaves block and room; a frame from IP leaves the block

@@ -26,7 +26,8 @@ sized {ranged} {octets} {room} (Put n) x h =
     omega (arith, h (e .0))
 sized (Unwritten r) x h = tt
 
-pub wrote-number : {flags ranged : Bool} {octets room after : List ℕ} {r : ℕ} (w : Written) → flags ≡ true → Wrote ranged octets room w after → r ≡ writtenNumber w → WroteNumber (flags && ranged) octets room r after
+pub wrote-number : {flags ranged : Bool} {octets room after : List ℕ} {r : ℕ} (w : Written)
+    → flags ≡ true → Wrote ranged octets room w after → r ≡ writtenNumber w → WroteNumber (flags && ranged) octets room r after
 wrote-number {flags} {ranged} {octets} {room} w f x e =
     let a : w ≡ written (flags && ranged) octets room = rw f (x .answered) in
     record { answered = e ∙ ap writtenNumber a; left = x .left ∙ ap (λ (v : Written). roomAfter v octets room) a }
@@ -41,10 +42,12 @@ flags-refused flags ranged octets room f =
     record { answered = sym (ap writtenNumber a); left = sym (ap (λ (v : Written). roomAfter v octets room) a) }
 
 -- two outcomes that the contract allows coincide
-pub wrote-number-one : {ranged : Bool} {octets room : List ℕ} {r₁ r₂ : ℕ} {a₁ a₂ : List ℕ} → WroteNumber ranged octets room r₁ a₁ → WroteNumber ranged octets room r₂ a₂ → (r₁ ≡ r₂) × (a₁ ≡ a₂)
+pub wrote-number-one : {ranged : Bool} {octets room : List ℕ} {r₁ r₂ : ℕ} {a₁ a₂ : List ℕ}
+    → WroteNumber ranged octets room r₁ a₁ → WroteNumber ranged octets room r₂ a₂ → (r₁ ≡ r₂) × (a₁ ≡ a₂)
 wrote-number-one x y = (x .answered ∙ sym (y .answered), x .left ∙ sym (y .left))
 
-pub traced-through-one : {st : Stores} {site : List ℕ} {q : Query} {room : List ℕ} {r₁ r₂ : ℕ} {a₁ a₂ : List ℕ} → TracedThrough st site q room r₁ a₁ → TracedThrough st site q room r₂ a₂ → (r₁ ≡ r₂) × (a₁ ≡ a₂)
+pub traced-through-one : {st : Stores} {site : List ℕ} {q : Query} {room : List ℕ} {r₁ r₂ : ℕ} {a₁ a₂ : List ℕ}
+    → TracedThrough st site q room r₁ a₁ → TracedThrough st site q room r₂ a₂ → (r₁ ≡ r₂) × (a₁ ≡ a₂)
 traced-through-one x y = (x .answered ∙ sym (y .answered), x .left ∙ sym (y .left))
 
 -- an answer's number has 59 bits

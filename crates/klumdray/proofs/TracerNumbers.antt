@@ -11,10 +11,9 @@ use lib.ListN.{length, getD}
 use borrow.Author.Tests.{leb-true, eqb-true, eqb-false, not-false}
 use Rattle.frame.proofs.Apart.{fine-refuse, refuse-one}
 use Rattle.octets.proofs.Truth.{by-cases, and-true}
+use Rattle.passing.proofs.Answers.{passage-zero, passage-most}
 use Rattle.passing.specs.Answers.{passageNumber}
 use Rattle.passing.specs.Passing.{doesPass}
-use Rattle.passing.specs.declared.Passage.{Passage}
-use Rattle.passing.specs.declared.Passage.the-variants.{Passes, NotFitted, OwnAddress, Closed, NotBelow, NotAbove, NotInTable, UsedUp}
 use Rattle.frame.proofs.Numbers.{number-listed, refused-number}
 use Rattle.frame.proofs.Order.{passed-iff}
 use Rattle.frame.specs.Answers.{Numbered}
@@ -184,26 +183,6 @@ path-small s t h k =
     let down : List ℕ = beforeCommon (mainSides t) (mainSides s) in
     small-append (upOver up) (downOver down) (up-small up (before-lines (mainSides s) (mainSides t) (mains-lines (depth s) s h))) (down-small down (before-lines (mainSides t) (mainSides s) (mains-lines (depth t) t k)))
 
-passage-most : (p : Passage) → passageNumber p ≤ 7
-passage-most Passes = omega arith
-passage-most NotFitted = omega arith
-passage-most OwnAddress = omega arith
-passage-most Closed = omega arith
-passage-most NotBelow = omega arith
-passage-most NotAbove = omega arith
-passage-most NotInTable = omega arith
-passage-most UsedUp = omega arith
-
-passage-some : (p : Passage) → doesPass p ≡ false → eqb (passageNumber p) 0 ≡ false
-passage-some Passes e = e
-passage-some NotFitted e = refl
-passage-some OwnAddress e = refl
-passage-some Closed e = refl
-passage-some NotBelow e = refl
-passage-some NotAbove e = refl
-passage-some NotInTable e = refl
-passage-some UsedUp e = refl
-
 -- a reason, and numbers that fit their fields
 record Stops (stop : Stop) : Type 0 where
   reason : eqb (passageNumber (stop .reason)) 0 ≡ false
@@ -228,7 +207,7 @@ stops st site q line stop c h k e = by-cases (isListed (crossingPasses st site q
         let told = is ∙ x .told in
         let w : Small (x .here) = small-here (x .ahead) (x .behind) (x .here) (subst AllSmall (x .place) (path-small (q .start) line h k)) in
         record {
-          reason = passage-some (stop .reason) (ap (λ (s : Stop). doesPass (s .reason)) told ∙ x .stops .1 .1);
+          reason = passage-zero (stop .reason) ∙ ap (λ (s : Stop). doesPass (s .reason)) told ∙ x .stops .1 .1;
           coupler = rw (ap (λ (s : Stop). s .coupler) told) (w .0);
           direction = rw (ap (λ (s : Stop). s .direction) told) (w .1);
         }
@@ -239,7 +218,7 @@ module _ (stop : Stop) (x : Stops stop) where
 
   stop-fit : Fit stopFields
   unfolding stopFields
-  stop-fit = (omega arith, (omega (arith, passage-most (stop .reason)), (x .coupler, (x .direction, tt))))
+  stop-fit = (omega arith, (omega (arith, leb-true (passageNumber (stop .reason)) 7 (passage-most (stop .reason))), (x .coupler, (x .direction, tt))))
 
   stop-packed : explanationNumber (NotReached stop) ≡ packed stopFields
   unfolding stopFields

@@ -31,6 +31,7 @@ returns c =
     let setting-in = further .before .before .before .before .before .setting-in in
     let if1 = further .before .before .before .before .before .before .if1 in
     let furthest = further .before .before .before .before .before .before in
+    let heard = furthest .before .before .shared-slice-known3 in
     let slice-known = furthest .before .before .before .slice-known in
     let begun = furthest .before .before .before .before .before .before in
     let a = begun .args in
@@ -40,7 +41,7 @@ returns c =
     let held : from + kept-in .result - from ≡ kept-in .result = omega arith in
     let handed = rw (setting-in .ensures, codes-in .ensures, held) at (hand-on .ensures) in
     let kept = rw (setting-in .ensures) at (remember-if .ensures) in
-    rw (if1 .taken) (stepped k (a .memory .now) (a .octets .now) size (λ i. slice-known .given i .fits) (λ i. furthest .before .before .shared-slice-known3 .given i .fits) (start-of .ensures .0) (kept-in .ensures .0) handed kept (c .of-outcome .ensures))
+    rw (if1 .taken) (stepped k _ _ size (λ i. slice-known .given i .fits) (λ i. heard .given i .fits) (start-of .ensures .0) (kept-in .ensures .0) handed kept (c .of-outcome .ensures))
 
 returns-2 : tie.Need-returns-2
 returns-2 c =

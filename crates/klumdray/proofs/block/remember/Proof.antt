@@ -8,7 +8,8 @@ returns : tie.Need-returns
 unfolding rememberedAt
 returns c =
     let back = c .before .before .before .before .before .before in
-    rw (← back .before .before .before .before .high-octet .ensures, ← back .before .before .before .low-octet .ensures, ← c .before .before .before .before .before .before .lay .ensures) (c .before .before .lay2 .ensures)
+    let low = back .before .before .before in
+    rw (← low .before .high-octet .ensures, ← low .low-octet .ensures, ← back .lay .ensures) (c .before .before .lay2 .ensures)
 
 pub remember-spec : {M : Type 1} → statement M
 remember-spec =

@@ -20,7 +20,8 @@ mul-result c =
 add-result : tie.Need-add-result
 add-result c =
     let a = c .before .before .before .before .args in
-    omega (arith, c .before .before .of-code .ensures, code-most (a .message .code), c .before .flag .ensures, weigh-most (a .message .error) 4, c .of-meaning .ensures, meaning-below (a .message .meaning) (a .payload) (omega arith) (omega arith))
+    let below = meaning-below (a .message .meaning) (a .payload) (omega arith) (omega arith) in
+    omega (arith, c .before .before .of-code .ensures, code-most (a .message .code), c .before .flag .ensures, weigh-most (a .message .error) 4, c .of-meaning .ensures, below)
 
 returns : tie.Need-returns
 unfolding messageNumber
