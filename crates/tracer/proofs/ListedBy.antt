@@ -155,5 +155,6 @@ module _ (st : Stores) (site : List ℕ) (q : Query) (room : List ℕ) where
     trace-listed f l = did-trace Fine (surveyed ∙ f) (l .answered) (l .left)
 
 -- two outcomes that the contract allows coincide
-pub traced-one : {st : Stores} {site : List ℕ} {q : Query} {room : List ℕ} {r₁ r₂ : Traced} {a₁ a₂ : List ℕ} → DidTrace st site q room r₁ a₁ → DidTrace st site q room r₂ a₂ → (r₁ ≡ r₂) × (a₁ ≡ a₂)
+pub traced-one : {st : Stores} {site : List ℕ} {q : Query} {room : List ℕ} {r₁ r₂ : Traced} {a₁ a₂ : List ℕ}
+    → DidTrace st site q room r₁ a₁ → DidTrace st site q room r₂ a₂ → (r₁ ≡ r₂) × (a₁ ≡ a₂)
 traced-one x y = (x .answered ∙ sym (y .answered), x .left ∙ sym (y .left))

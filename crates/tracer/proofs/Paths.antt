@@ -283,7 +283,9 @@ length-down (n ∷ ns) = rw (length-append (downOver ns) (down n ∷ []), length
 pub distance-halves : (s t : ℕ) → distance s t ≡ length (beforeCommon (mainSides s) (mainSides t)) + length (beforeCommon (mainSides t) (mainSides s))
 unfolding distance path
 distance-halves s t =
-    rw (length-append (upOver (beforeCommon (mainSides s) (mainSides t))) (downOver (beforeCommon (mainSides t) (mainSides s))), length-up (beforeCommon (mainSides s) (mainSides t)), length-down (beforeCommon (mainSides t) (mainSides s))) refl
+    let ups : List ℕ = beforeCommon (mainSides s) (mainSides t) in
+    let downs : List ℕ = beforeCommon (mainSides t) (mainSides s) in
+    rw (length-append (upOver ups) (downOver downs), length-up ups, length-down downs) refl
 
 pub distance-four : (s t : ℕ) → distance s t ≤ 4
 distance-four s t =

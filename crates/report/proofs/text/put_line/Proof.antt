@@ -34,7 +34,8 @@ put-requires c κs =
     let further = back .before .before .before .before .before .before in
     let furthest = further .before .before .before .before .before .before in
     let begun = furthest .before .before .before .before in
-    fits-end _ _ _ _ _ (begun .pre) (furthest .before .put-decimal .ensures) (further .before .before .put-told .ensures) (back .before .before .before .put-told2 .ensures) (c .before .before .before .before .put-told3 .ensures)
+    let told = c .before .before .before .before .put-told3 in
+    fits-end _ _ _ _ _ (begun .pre) (furthest .before .put-decimal .ensures) (further .before .before .put-told .ensures) (back .before .before .before .put-told2 .ensures) (told .ensures)
 
 returns : tie.Need-returns
 returns c =

@@ -36,9 +36,9 @@ loop-less c =
 
 loop-again : tie.Need-loop-again Inv-loop μ-loop
 loop-again c =
-    let at-list-line = c .before .before .list-line in
-    let back = c .before .before .before .before .before .before in
-    listing-more (back .before .pre) (c .before .before .before .before .before .loop .inv) (c .before .before .before .before .loop-test .taken) (at-list-line .ensures .0) (at-list-line .ensures .1) (at-list-line .kept .1 .1 .1 .1 .0)
+    let put = c .before .before .list-line in
+    let turn = c .before .before .before .before in
+    listing-more (turn .before .before .before .pre) (turn .before .loop .inv) (turn .loop-test .taken) (put .ensures .0) (put .ensures .1) (put .kept .1 .1 .1 .1 .0)
 
 same-length : tie.Need-same-length Inv-loop μ-loop
 same-length c =

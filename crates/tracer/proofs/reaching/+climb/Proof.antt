@@ -40,7 +40,8 @@ climb-climb-requires t c κs =
     let b = c .before .before .before .before in
     let d = c .before .before .before .if1 .left in
     let less = climb-less d (b .pre .1 .0) (c .main-side .ensures) in
-    (omega (arith, less, b .pre .0), (climb-on d (b .pre .1 .0) (c .main-side .ensures), omega (arith, less, b .pre .1 .1, c .before .hand .ensures, handed-most (b .args .count) (b .args .lines) (getD (b .args .up .now) (b .args .from) false))))
+    let most = handed-most (b .args .count) (b .args .lines) (getD (b .args .up .now) (b .args .from) false) in
+    (omega (arith, less, b .pre .0), (climb-on d (b .pre .1 .0) (c .main-side .ensures), omega (arith, less, b .pre .1 .1, c .before .hand .ensures, most)))
 
 climb-returns-2 : (t : ℕ) → climb-lts.Need-returns-2 (known t) (climb-at t) climb.Post
 climb-returns-2 t c =

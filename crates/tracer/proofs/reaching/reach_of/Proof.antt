@@ -24,7 +24,8 @@ hand-requires c κs =
 returns-2 : tie.Need-returns-2
 unfolding reachBy
 returns-2 c =
-    rw (sym (c .before .before .before .before .before .is-above .ensures) ∙ c .before .before .before .before .if1 .left, ← c .before .before .before .main-side .ensures) (c .hand .ensures)
+    let then = c .before .before .before .before in
+    rw (sym (then .before .is-above .ensures) ∙ then .if1 .left, ← c .before .before .before .main-side .ensures) (c .hand .ensures)
 
 pub reach-of-spec : {M : Type 1} → statement M
 reach-of-spec =
