@@ -1,6 +1,6 @@
 -- The tracer's numbers: at most 256 lines and 255 forwardings, so that nothing is cut off; and what stops a telegram is a crossing of the
 -- path, whose line and direction are below 256 and 2.
-use Prim.Native.Nat.{ℕ, zero, suc, _+_, _-_, _%_, _^_, _≤_, _<_}
+use Prim.Native.Nat.{ℕ, zero, suc, _+_, _%_, _^_, _≤_, _<_}
 use mathlib.Core.Bool.{Bool, true, false}
 use mathlib.Core.List.{List, [], _∷_, _++_}
 use mathlib.Core.Logic.{_↔_}
