@@ -208,7 +208,7 @@ def edited_sources(edit):
     for file, old, new in edit.pairs:
         if file.startswith("src/"):
             name = pathlib.Path(file).stem
-            files[name] = files[name].replace(old, new)
+            files[name] = files.get(name, "").replace(old, new)
     return files
 
 

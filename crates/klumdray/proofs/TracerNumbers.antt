@@ -21,7 +21,6 @@ use Rattle.frame.specs.Order.{firstOf, answerBy}
 use Rattle.frame.specs.declared.Verdict.the-variants.{Fine, Refuse}
 use Rattle.frame.specs.declared.Verdict.{Verdict}
 use Rattle.frame.specs.Refusals.{number, lastNumber}
-use Rattle.frame.specs.declared.Refusal.{Refusal}
 use Rattle.klumdray.proofs.Bits.{Field, _holding_, packed, Fit, read-back, below}
 use Rattle.klumdray.proofs.Telling.{number-alone, tells-refused, tells-accepted}
 use Rattle.klumdray.specs.Decoding.{numberIn, linesIn, forwardingsIn, tracedNumbered, tracedFrom, explanationFrom, Tells}
