@@ -39,14 +39,5 @@ returns-2 c =
     handed-on (ap (λ (v : Verdict). after v (readBy (fromIp k) (a .octets .now))) (sym (judge .ensures) ∙ enum-told .given .1)) (c .before .before .receive .ensures)
 
 pub hand-on-spec : {M : Type 1} → statement M
-hand-on-spec =
-    tie.close
-    (tie.spec
-    (λ c κs. search needs)
-    (λ c. search needs)
-    (λ c κs. search needs)
-    (λ c. search needs)
-    receive-requires
-    returns
-    (λ c. search needs)
-    returns-2)
+hand-on-spec = tie.close (tie.spec (λ c κs. search needs) (λ c. search needs) (λ c κs. search needs) (λ c. search needs) receive-requires
+    returns (λ c. search needs) returns-2)

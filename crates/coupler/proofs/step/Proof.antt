@@ -33,14 +33,5 @@ returns c =
     did (couplerBy (a .setting) (a .codes) (a .table .now)) (a .memory) (a .octets .now) (side-of .ensures) (kept-of .ensures .0) (hand-on .ensures) (c .remembered-if .ensures)
 
 pub step-spec : {M : Type 1} → statement M
-step-spec =
-    tie.close
-    (tie.spec
-    (λ c κs. search needs)
-    (λ c κs. search needs)
-    array-share-prefix-frame
-    slice-aggregate-hand-on
-    (λ c κs. search needs)
-    (λ c κs. search needs)
-    (λ c. search needs)
-    returns)
+step-spec = tie.close (tie.spec (λ c κs. search needs) (λ c κs. search needs) array-share-prefix-frame slice-aggregate-hand-on
+    (λ c κs. search needs) (λ c κs. search needs) (λ c. search needs) returns)

@@ -4,14 +4,7 @@ use Rattle.klumdray.proofs.klumdray_cemi_read.Statement.{statement}
 use Rattle.klumdray.proofs.klumdray_cemi_read.Tie as tie
 
 returns : tie.Need-returns
-returns c =
-    rw (← c .before .before .read .ensures, ← c .before .payload .ensures .holds) (c .of-cemi .ensures)
+returns c = rw (← c .before .before .read .ensures, ← c .before .payload .ensures .holds) (c .of-cemi .ensures)
 
 pub klumdray-cemi-read-spec : {M : Type 1} → statement M
-klumdray-cemi-read-spec =
-    tie.close
-    (tie.spec
-    (λ c κs. search needs)
-    (λ c κs. search needs)
-    (λ c κs. search needs)
-    returns)
+klumdray-cemi-read-spec = tie.close (tie.spec (λ c κs. search needs) (λ c κs. search needs) (λ c κs. search needs) returns)

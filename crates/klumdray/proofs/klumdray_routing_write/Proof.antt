@@ -8,8 +8,7 @@ use Rattle.klumdray.proofs.klumdray_routing_write.Statement.{statement}
 use Rattle.klumdray.proofs.klumdray_routing_write.Tie as tie
 
 of-written-requires : tie.Need-of-written-requires
-of-written-requires c κs =
-    sized _ (c .before .before .write .ensures) (routing-most true IndicationOnly _ _)
+of-written-requires c κs = sized _ (c .before .before .write .ensures) (routing-most true IndicationOnly _ _)
 
 returns : tie.Need-returns
 returns c =
@@ -20,18 +19,8 @@ returns c =
     wrote-number _ flags (rw (message-from .ensures, back .meaning-from .ensures) at (write .ensures)) (c .of-written .ensures)
 
 returns-2 : tie.Need-returns-2
-returns-2 c =
-    flags-refused _ _ _ _ (tested _ (c .before .are-flags .ensures) (c .if1 .left))
+returns-2 c = flags-refused _ _ _ _ (tested _ (c .before .are-flags .ensures) (c .if1 .left))
 
 pub klumdray-routing-write-spec : {M : Type 1} → statement M
-klumdray-routing-write-spec =
-    tie.close
-    (tie.spec
-    (λ c κs. search needs)
-    (λ c κs. search needs)
-    (λ c κs. search needs)
-    (λ c κs. search needs)
-    of-written-requires
-    (λ c. search needs)
-    returns
-    returns-2)
+klumdray-routing-write-spec = tie.close (tie.spec (λ c κs. search needs) (λ c κs. search needs) (λ c κs. search needs)
+    (λ c κs. search needs) of-written-requires (λ c. search needs) returns returns-2)

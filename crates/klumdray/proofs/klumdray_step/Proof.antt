@@ -44,26 +44,9 @@ returns c =
     rw (if1 .taken) (stepped k _ _ size (λ i. slice-known .given i .fits) (λ i. heard .given i .fits) (start-of .ensures .0) (kept-in .ensures .0) handed kept (c .of-outcome .ensures))
 
 returns-2 : tie.Need-returns-2
-returns-2 c =
-    rw (c .if1 .left) (stepped-wrong _ _ _ _)
+returns-2 c = rw (c .if1 .left) (stepped-wrong _ _ _ _)
 
 pub klumdray-step-spec : {M : Type 1} → statement M
-klumdray-step-spec =
-    tie.close
-    (tie.spec
-    (λ c κs. search needs)
-    (λ c κs. search needs)
-    (λ c κs. search needs)
-    (λ c. search needs)
-    (λ c κs. search needs)
-    (λ c. search needs)
-    (λ c. search needs)
-    (λ c. search needs)
-    part-hand-on-end
-    (λ c κs. search needs)
-    (λ c κs. search needs)
-    (λ c κs. search needs)
-    (λ c. search needs)
-    (λ c. search needs)
-    returns
-    returns-2)
+klumdray-step-spec = tie.close (tie.spec (λ c κs. search needs) (λ c κs. search needs) (λ c κs. search needs) (λ c. search needs)
+    (λ c κs. search needs) (λ c. search needs) (λ c. search needs) (λ c. search needs) part-hand-on-end (λ c κs. search needs)
+    (λ c κs. search needs) (λ c κs. search needs) (λ c. search needs) (λ c. search needs) returns returns-2)

@@ -4,14 +4,7 @@ use Rattle.klumdray.proofs.klumdray_tp1_read.Statement.{statement}
 use Rattle.klumdray.proofs.klumdray_tp1_read.Tie as tie
 
 returns : tie.Need-returns
-returns c =
-    rw (← c .before .before .read .ensures, ← c .before .payload .ensures .holds) (c .of-tp1 .ensures)
+returns c = rw (← c .before .before .read .ensures, ← c .before .payload .ensures .holds) (c .of-tp1 .ensures)
 
 pub klumdray-tp1-read-spec : {M : Type 1} → statement M
-klumdray-tp1-read-spec =
-    tie.close
-    (tie.spec
-    (λ c κs. search needs)
-    (λ c κs. search needs)
-    (λ c κs. search needs)
-    returns)
+klumdray-tp1-read-spec = tie.close (tie.spec (λ c κs. search needs) (λ c κs. search needs) (λ c κs. search needs) returns)

@@ -8,8 +8,7 @@ use Rattle.klumdray.proofs.klumdray_tp1_write.Statement.{statement}
 use Rattle.klumdray.proofs.klumdray_tp1_write.Tie as tie
 
 of-written-requires : tie.Need-of-written-requires
-of-written-requires c κs =
-    sized _ (c .before .before .write .ensures) (tp1-most true _ _)
+of-written-requires c κs = sized _ (c .before .before .write .ensures) (tp1-most true _ _)
 
 returns : tie.Need-returns
 returns c =
@@ -20,17 +19,8 @@ returns c =
     wrote-number _ flags (rw (meaning-from .ensures) at (write .ensures)) (c .of-written .ensures)
 
 returns-2 : tie.Need-returns-2
-returns-2 c =
-    flags-refused _ _ _ _ (sym (c .before .are-flags .ensures) ∙ c .if1 .left)
+returns-2 c = flags-refused _ _ _ _ (sym (c .before .are-flags .ensures) ∙ c .if1 .left)
 
 pub klumdray-tp1-write-spec : {M : Type 1} → statement M
-klumdray-tp1-write-spec =
-    tie.close
-    (tie.spec
-    (λ c κs. search needs)
-    (λ c κs. search needs)
-    (λ c κs. search needs)
-    of-written-requires
-    (λ c. search needs)
-    returns
-    returns-2)
+klumdray-tp1-write-spec = tie.close (tie.spec (λ c κs. search needs) (λ c κs. search needs) (λ c κs. search needs) of-written-requires
+    (λ c. search needs) returns returns-2)

@@ -6,13 +6,7 @@ use Rattle.knxnetip.proofs.is_other_header.Tie as tie
 
 returns : tie.Need-returns
 unfolding isOtherHeader
-returns c =
-    rw (c .before .octet .ensures, c .octet2 .ensures)
+returns c = rw (c .before .octet .ensures, c .octet2 .ensures)
 
 pub is-other-header-spec : {M : Type 1} → statement M
-is-other-header-spec =
-    tie.close
-    (tie.spec
-    (λ c κs. search needs)
-    (λ c κs. search needs)
-    returns)
+is-other-header-spec = tie.close (tie.spec (λ c κs. search needs) (λ c κs. search needs) returns)

@@ -9,14 +9,5 @@ returns c =
     rw (← back .before .before .high-octet .ensures, ← back .before .low-octet .ensures, ← c .before .before .before .before .before .before .high-octet2 .ensures, ← c .before .before .before .before .before .low-octet2 .ensures) (c .before .before .lay .ensures)
 
 pub lay-header-spec : {M : Type 1} → statement M
-lay-header-spec =
-    tie.close
-    (tie.spec
-    (λ c κs. search needs)
-    (λ c κs. search needs)
-    (λ c κs. search needs)
-    (λ c κs. search needs)
-    (λ c. search needs)
-    (λ c κs. search needs)
-    (λ c. search needs)
-    returns)
+lay-header-spec = tie.close (tie.spec (λ c κs. search needs) (λ c κs. search needs) (λ c κs. search needs) (λ c κs. search needs)
+    (λ c. search needs) (λ c κs. search needs) (λ c. search needs) returns)

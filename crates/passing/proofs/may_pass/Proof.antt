@@ -10,5 +10,4 @@ returns c =
     rw (← c .before .before .before .class-of .ensures .0, ← c .before .before .code-in .ensures, ← c .before .is-own .ensures, ← c .is-ruled .ensures)
 
 pub may-pass-spec : {M : Type 1} → statement M
-may-pass-spec =
-    tie.close (tie.spec (λ c κs. search needs) (λ c κs. search needs) (λ c κs. search needs) (λ c κs. search needs) returns)
+may-pass-spec = tie.close (tie.spec (λ c κs. search needs) (λ c κs. search needs) (λ c κs. search needs) (λ c κs. search needs) returns)

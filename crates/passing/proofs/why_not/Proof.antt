@@ -8,8 +8,7 @@ use Rattle.passing.proofs.why_not.Tie as tie
 
 returns : tie.Need-returns
 unfolding passageOf
-returns c =
-    rw (sym (c .before .is-own .ensures) ∙ c .if1 .taken) refl
+returns c = rw (sym (c .before .is-own .ensures) ∙ c .if1 .taken) refl
 
 returns-2 : tie.Need-returns-2
 unfolding passageOf
@@ -32,16 +31,5 @@ returns-5 c =
     rw (sym (c .before .before .is-own .ensures) ∙ c .before .if1 .left, ← c .before .before .before .before .class-of .ensures .0, ← c .before .before .before .code-in .ensures, c .if2 .left) refl
 
 pub why-not-spec : {M : Type 1} → statement M
-why-not-spec =
-    tie.close
-    (tie.spec
-    (λ c κs. search needs)
-    (λ c κs. search needs)
-    (λ c κs. search needs)
-    returns
-    (λ c κs. search needs)
-    (λ c κs. search needs)
-    returns-2
-    returns-3
-    returns-4
-    returns-5)
+why-not-spec = tie.close (tie.spec (λ c κs. search needs) (λ c κs. search needs) (λ c κs. search needs) returns (λ c κs. search needs)
+    (λ c κs. search needs) returns-2 returns-3 returns-4 returns-5)

@@ -30,11 +30,4 @@ returns c =
     puts-then _ _ 0 (a .room .now) fits (back .before .put-list .ensures) (c .before .before .put-told-line .ensures)
 
 pub put-listed-spec : {M : Type 1} → statement M
-put-listed-spec =
-    tie.close
-    (tie.spec
-    put-list-requires
-    (λ c. search needs)
-    put-told-line-requires
-    (λ c. search needs)
-    returns)
+put-listed-spec = tie.close (tie.spec put-list-requires (λ c. search needs) put-told-line-requires (λ c. search needs) returns)

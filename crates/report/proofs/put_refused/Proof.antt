@@ -11,5 +11,4 @@ put-told-line-requires c κs =
     refused-fits (begun .args .refused) (begun .args .room .now) (omega arith) (begun .pre)
 
 pub put-refused-spec : {M : Type 1} → statement M
-put-refused-spec =
-    tie.close (tie.spec (λ c. search needs) put-told-line-requires (λ c. search needs) (λ c. search needs))
+put-refused-spec = tie.close (tie.spec (λ c. search needs) put-told-line-requires (λ c. search needs) (λ c. search needs))

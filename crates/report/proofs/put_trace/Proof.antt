@@ -27,8 +27,7 @@ mul-size c =
     omega (arith, array-share-prefix-list c, trace .kept .1 .1 .1 .1 .0)
 
 slice-aggregate-put-listed : tie.Need-slice-aggregate-put-listed
-slice-aggregate-put-listed c =
-    sym (length-take-le _ _ (array-share-prefix-list (c .before)))
+slice-aggregate-put-listed c = sym (length-take-le _ _ (array-share-prefix-list (c .before)))
 
 put-listed-requires : tie.Need-put-listed-requires
 put-listed-requires c κs =
@@ -51,22 +50,6 @@ returns-2 c =
     puts-as (traced-listed (begun .args .input .now) (further .before .query-in .ensures) (trace .ensures) (if1 .left) (trace .kept .1 .1 .1 .1 .0) .told) (c .before .before .put-listed .ensures)
 
 pub put-trace-spec : {M : Type 1} → statement M
-put-trace-spec =
-    tie.close
-    (tie.spec
-    (λ c κs. search needs)
-    (λ c. search needs)
-    (λ c. search needs)
-    (λ c. search needs)
-    (λ c. search needs)
-    (λ c. search needs)
-    (λ c κs. search needs)
-    (λ c κs. search needs)
-    (λ c. search needs)
-    returns
-    mul-size
-    array-share-prefix-list
-    slice-aggregate-put-listed
-    put-listed-requires
-    (λ c. search needs)
-    returns-2)
+put-trace-spec = tie.close (tie.spec (λ c κs. search needs) (λ c. search needs) (λ c. search needs) (λ c. search needs) (λ c. search needs)
+    (λ c. search needs) (λ c κs. search needs) (λ c κs. search needs) (λ c. search needs) returns mul-size array-share-prefix-list
+    slice-aggregate-put-listed put-listed-requires (λ c. search needs) returns-2)

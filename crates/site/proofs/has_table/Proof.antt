@@ -13,16 +13,8 @@ returns c =
 
 returns-2 : tie.Need-returns-2
 unfolding hasTable
-returns-2 c =
-    rw (← c .before .before .table-number .ensures, ne-eqb _ _ (c .before .if1 .left), c .table-of .ensures .table .holds) refl
+returns-2 c = rw (← c .before .before .table-number .ensures, ne-eqb _ _ (c .before .if1 .left), c .table-of .ensures .table .holds) refl
 
 pub has-table-spec : {M : Type 1} → statement M
-has-table-spec =
-    tie.close
-    (tie.spec
-    (λ c κs. search needs)
-    (λ c κs. search needs)
-    (λ c κs. search needs)
-    (λ c κs. search needs)
-    returns
+has-table-spec = tie.close (tie.spec (λ c κs. search needs) (λ c κs. search needs) (λ c κs. search needs) (λ c κs. search needs) returns
     returns-2)

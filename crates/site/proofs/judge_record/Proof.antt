@@ -21,20 +21,8 @@ returns-4 c =
     rw (sym (c .before .before .before .before .before .before .before .is-marked .ensures) ∙ c .before .before .before .before .before .before .if1 .taken, ← c .before .before .before .line-of .ensures, ← c .before .before .before .before .before .codes-of .ensures, ← c .before .before .before .before .are-codes .ensures, c .before .before .if2 .left, sym (c .before .has-table .ensures) ∙ c .if3 .left) refl
 
 returns-5 : tie.Need-returns-5
-returns-5 c =
-    rw (sym (c .before .is-marked .ensures) ∙ c .if1 .left) refl
+returns-5 c = rw (sym (c .before .is-marked .ensures) ∙ c .if1 .left) refl
 
 pub judge-record-spec : {M : Type 1} → statement M
-judge-record-spec =
-    tie.close
-    (tie.spec
-    (λ c κs. search needs)
-    (λ c κs. search needs)
-    (λ c κs. search needs)
-    (λ c κs. search needs)
-    returns
-    (λ c κs. search needs)
-    returns-2
-    returns-3
-    returns-4
-    returns-5)
+judge-record-spec = tie.close (tie.spec (λ c κs. search needs) (λ c κs. search needs) (λ c κs. search needs) (λ c κs. search needs) returns
+    (λ c κs. search needs) returns-2 returns-3 returns-4 returns-5)

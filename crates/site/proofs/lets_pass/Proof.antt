@@ -7,8 +7,7 @@ use Rattle.site.proofs.lets_pass.Statement.{statement}
 use Rattle.site.proofs.lets_pass.Tie as tie
 
 returns : tie.Need-returns
-returns c =
-    rw (eq-eqb _ _ (c .if1 .taken)) refl
+returns c = rw (eq-eqb _ _ (c .if1 .taken)) refl
 
 returns-2 : tie.Need-returns-2
 returns-2 c =
@@ -32,18 +31,5 @@ returns-3 c =
     rw (ne-eqb _ _ (fitted .if1 .left)) (two-marks (individual-asked _ _ _ _ _ g l k (c .before .may-pass3 .ensures)) (individual-asked _ _ _ _ _ g l k (c .may-pass4 .ensures)))
 
 pub lets-pass-spec : {M : Type 1} → statement M
-lets-pass-spec =
-    tie.close
-    (tie.spec
-    returns
-    (λ c κs. search needs)
-    (λ c κs. search needs)
-    (λ c κs. search needs)
-    (λ c κs. search needs)
-    (λ c κs. search needs)
-    (λ c κs. search needs)
-    (λ c. search needs)
-    (λ c κs. search needs)
-    (λ c κs. search needs)
-    returns-2
-    returns-3)
+lets-pass-spec = tie.close (tie.spec returns (λ c κs. search needs) (λ c κs. search needs) (λ c κs. search needs) (λ c κs. search needs)
+    (λ c κs. search needs) (λ c κs. search needs) (λ c. search needs) (λ c κs. search needs) (λ c κs. search needs) returns-2 returns-3)

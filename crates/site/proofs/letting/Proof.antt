@@ -15,12 +15,10 @@ Inv-loop site starts project own kind destination down₀ up₀ line₀ down up 
     BothBelow (lineLetsPassBy (stores project own) kind destination site starts) down up line
 
 abbrev μ-loop : tie.MeasureT-loop
-μ-loop site starts project own kind destination down₀ up₀ line₀ down up line =
-    256 - line
+μ-loop site starts project own kind destination down₀ up₀ line₀ down up line = 256 - line
 
 loop-holds : tie.Need-loop-holds Inv-loop μ-loop
-loop-holds c =
-    both-none _ _ _ refl refl
+loop-holds c = both-none _ _ _ refl refl
 
 loop-again : tie.Need-loop-again Inv-loop μ-loop
 unfolding lineLetsPassBy
@@ -29,25 +27,9 @@ loop-again c =
     both-more (found .before .before .before .loop .inv) (omega arith) (c .lets-pass .ensures ∙ ap (recordBothWays _ _ _) (found .record-from .ensures))
 
 returns : tie.Need-returns Inv-loop μ-loop
-returns c =
-    both-all (c .before .loop .inv) (omega arith)
+returns c = both-all (c .before .loop .inv) (omega arith)
 
 pub letting-spec : {M : Type 1} → statement M
-letting-spec =
-    tie.close
-    (tie.spec
-    Inv-loop
-    μ-loop
-    loop-holds
-    (λ c. search needs)
-    (λ c. search needs)
-    (λ c κs. search needs)
-    (λ c κs. search needs)
-    (λ c. search needs)
-    (λ c. search needs)
-    (λ c. search needs)
-    (λ c. search needs)
-    (λ c. search needs)
-    (λ c. search needs)
-    loop-again
-    returns)
+letting-spec = tie.close (tie.spec Inv-loop μ-loop loop-holds (λ c. search needs) (λ c. search needs) (λ c κs. search needs)
+    (λ c κs. search needs) (λ c. search needs) (λ c. search needs) (λ c. search needs) (λ c. search needs) (λ c. search needs)
+    (λ c. search needs) loop-again returns)

@@ -5,8 +5,7 @@ use Rattle.site.proofs.refused.Statement.{statement}
 use Rattle.site.proofs.refused.Tie as tie
 
 returns : tie.Need-returns
-returns c =
-    no-starts (c .args .refusal) _ refl
+returns c = no-starts (c .args .refusal) _ refl
 
 pub refused-spec : {M : Type 1} → statement M
 refused-spec = tie.close (tie.spec returns)

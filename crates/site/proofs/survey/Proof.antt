@@ -26,13 +26,5 @@ returns-3 c =
     refused-by _ _ (rw (sym (stored .before .are-stores .ensures) ∙ stored .if1 .left) refl) (c .refused2 .ensures)
 
 pub survey-spec : {M : Type 1} → statement M
-survey-spec =
-    tie.close
-    (tie.spec
-    (λ c κs. search needs)
-    (λ c κs. search needs)
-    (λ c κs. search needs)
-    (λ c κs. search needs)
-    returns
-    returns-2
-    returns-3)
+survey-spec = tie.close (tie.spec (λ c κs. search needs) (λ c κs. search needs) (λ c κs. search needs) (λ c κs. search needs) returns
+    returns-2 returns-3)

@@ -11,16 +11,13 @@ use Rattle.site.proofs.survey_records.Statement.{statement}
 use Rattle.site.proofs.survey_records.Tie as tie
 
 abbrev Inv-loop : tie.InvT-loop
-Inv-loop site project own starts₀ from₀ starts from =
-    Surveying (stores project own) site starts from
+Inv-loop site project own starts₀ from₀ starts from = Surveying (stores project own) site starts from
 
 abbrev μ-loop : tie.MeasureT-loop
-μ-loop site project own starts₀ from₀ starts from =
-    length site - from
+μ-loop site project own starts₀ from₀ starts from = length site - from
 
 loop-holds : tie.Need-loop-holds Inv-loop μ-loop
-loop-holds c =
-    surveying-none _ _ _ refl
+loop-holds c = surveying-none _ _ _ refl
 
 returns : tie.Need-returns Inv-loop μ-loop
 returns c =
@@ -30,8 +27,7 @@ returns c =
     surveying-refused (tested .before .loop .inv) (tested .record-from .ensures) (found .before .if1 .taken) (found .record-from2 .ensures) (judging .before .line-of .ensures) (search needs) (judging .judge-record .ensures) _ (c .before .before .judged .given .1) (c .refused .ensures)
 
 cast-from : tie.Need-cast-from Inv-loop μ-loop
-cast-from c =
-    omega (arith, record-most _ _ (c .before .before .before .before .record-from2 .ensures))
+cast-from c = omega (arith, record-most _ _ (c .before .before .before .before .record-from2 .ensures))
 
 add-from : tie.Need-add-from Inv-loop μ-loop
 add-from c =
@@ -52,8 +48,7 @@ loop-again c =
     surveying-more (tested .before .loop .inv) (tested .record-from .ensures) (found .before .if1 .taken) (found .record-from2 .ensures) (judging .before .line-of .ensures) (search needs) (judging .judge-record .ensures) (c .enum-told .given .1)
 
 cast-if2 : tie.Need-cast-if2 Inv-loop μ-loop
-cast-if2 c =
-    omega (arith, apart-few (c .before .before .loop .inv .apart))
+cast-if2 c = omega (arith, apart-few (c .before .before .loop .inv .apart))
 
 returns-2 : tie.Need-returns-2 Inv-loop μ-loop
 returns-2 c =
@@ -61,34 +56,10 @@ returns-2 c =
     surveying-cut (tested .before .loop .inv) (tested .record-from .ensures) (omega arith) (omega arith) (c .refused2 .ensures)
 
 returns-3 : tie.Need-returns-3 Inv-loop μ-loop
-returns-3 c =
-    surveying-all (c .before .before .before .loop .inv) (omega arith)
+returns-3 c = surveying-all (c .before .before .before .loop .inv) (omega arith)
 
 pub survey-records-spec : {M : Type 1} → statement M
-survey-records-spec =
-    tie.close
-    (tie.spec
-    Inv-loop
-    μ-loop
-    loop-holds
-    (λ c κs. search needs)
-    (λ c κs. search needs)
-    (λ c κs. search needs)
-    (λ c. search needs)
-    (λ c. search needs)
-    (λ c. search needs)
-    (λ c κs. search needs)
-    (λ c. search needs)
-    (λ c κs. search needs)
-    returns
-    (λ c. search needs)
-    (λ c. search needs)
-    (λ c. search needs)
-    cast-from
-    add-from
-    loop-less
-    loop-again
-    cast-if2
-    (λ c κs. search needs)
-    returns-2
-    returns-3)
+survey-records-spec = tie.close (tie.spec Inv-loop μ-loop loop-holds (λ c κs. search needs) (λ c κs. search needs) (λ c κs. search needs)
+    (λ c. search needs) (λ c. search needs) (λ c. search needs) (λ c κs. search needs) (λ c. search needs) (λ c κs. search needs) returns
+    (λ c. search needs) (λ c. search needs) (λ c. search needs) cast-from add-from loop-less loop-again cast-if2 (λ c κs. search needs)
+    returns-2 returns-3)

@@ -9,8 +9,7 @@ use Rattle.tp1.proofs.payload.Statement.{statement}
 use Rattle.tp1.proofs.payload.Tie as tie
 
 returns : tie.Need-returns
-returns c =
-    rw (c .before .enum-told .given .1) (record { holds = refl; block = refl; offset = omega arith })
+returns c = rw (c .before .enum-told .given .1) (record { holds = refl; block = refl; offset = omega arith })
 
 returns-2 : tie.Need-returns-2
 returns-2 c =
@@ -25,18 +24,5 @@ returns-3 c =
     rw (c .before .before .before .before .answer .given .1, ← at-head-of .ensures, le-ltb _ _ (c .before .if1 .left), z) (record { holds = refl; block = refl; offset = omega arith })
 
 pub payload-spec : {M : Type 1} → statement M
-payload-spec =
-    tie.close
-    (tie.spec
-    (λ c. search needs)
-    (λ c. search needs)
-    (λ c. search needs)
-    returns
-    (λ c κs. search needs)
-    (λ c. search needs)
-    (λ c. search needs)
-    (λ c. search needs)
-    (λ c. search needs)
-    (λ c. search needs)
-    returns-2
-    returns-3)
+payload-spec = tie.close (tie.spec (λ c. search needs) (λ c. search needs) (λ c. search needs) returns (λ c κs. search needs)
+    (λ c. search needs) (λ c. search needs) (λ c. search needs) (λ c. search needs) (λ c. search needs) returns-2 returns-3)

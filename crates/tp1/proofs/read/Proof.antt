@@ -9,8 +9,7 @@ use Rattle.tp1.proofs.read.Tie as tie
 
 returns : tie.Need-returns
 unfolding readTp1 readFrom
-returns c =
-    rw (eq-eqb _ _ (c .if1 .taken))
+returns c = rw (eq-eqb _ _ (c .if1 .taken))
 
 returns-2 : tie.Need-returns-2
 unfolding readTp1 readFrom
@@ -19,16 +18,7 @@ returns-2 c =
 
 returns-3 : tie.Need-returns-3
 unfolding readTp1 readFrom
-returns-3 c =
-    rw (ne-eqb _ _ (c .before .before .before .if1 .left), sym (c .before .is-control .ensures) ∙ c .if2 .left)
+returns-3 c = rw (ne-eqb _ _ (c .before .before .before .if1 .left), sym (c .before .is-control .ensures) ∙ c .if2 .left)
 
 pub read-spec : {M : Type 1} → statement M
-read-spec =
-    tie.close
-    (tie.spec
-    (λ c. search needs)
-    (λ c κs. search needs)
-    (λ c κs. search needs)
-    returns
-    returns-2
-    returns-3)
+read-spec = tie.close (tie.spec (λ c. search needs) (λ c κs. search needs) (λ c κs. search needs) returns returns-2 returns-3)

@@ -17,12 +17,10 @@ size-is : (m : Meaning) (p : List ℕ) (n : ℕ) → n ≡ headOf (m .extended) 
 size-is m p n e = length-octets m p ∙ ap (λ (k : ℕ). k + length p + 1) (sym e)
 
 add-size : tie.Need-add-size
-add-size c =
-    omega (arith, c .head-of .ensures, head-most (c .before .before .before .before .before .args .meaning .extended))
+add-size c = omega (arith, c .head-of .ensures, head-most (c .before .before .before .before .before .args .meaning .extended))
 
 add-size-2 : tie.Need-add-size-2
-add-size-2 c =
-    omega (arith, c .head-of .ensures, head-most (c .before .before .before .before .before .args .meaning .extended))
+add-size-2 c = omega (arith, c .head-of .ensures, head-most (c .before .before .before .before .before .args .meaning .extended))
 
 returns : tie.Need-returns
 returns c =
@@ -42,19 +40,8 @@ returns-2 c =
     record { answered = sym (put-iff _ _ _ _ .1 (sym (back .before .in-range .ensures) ∙ c .before .before .before .before .before .before .if1 .taken, (omega arith, e))); left = c .before .before .put .ensures }
 
 returns-3 : tie.Need-returns-3
-returns-3 c =
-    record { answered = sym (unranged-iff _ _ _ .1 (sym (c .before .in-range .ensures) ∙ c .if1 .left)); left = refl }
+returns-3 c = record { answered = sym (unranged-iff _ _ _ .1 (sym (c .before .in-range .ensures) ∙ c .if1 .left)); left = refl }
 
 pub write-spec : {M : Type 1} → statement M
-write-spec =
-    tie.close
-    (tie.spec
-    (λ c κs. search needs)
-    (λ c κs. search needs)
-    add-size
-    add-size-2
-    returns
-    put-requires
-    (λ c. search needs)
-    returns-2
-    returns-3)
+write-spec = tie.close (tie.spec (λ c κs. search needs) (λ c κs. search needs) add-size add-size-2 returns put-requires (λ c. search needs)
+    returns-2 returns-3)

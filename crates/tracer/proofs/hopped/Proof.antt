@@ -4,8 +4,7 @@ use Rattle.tracer.proofs.hopped.Statement.{statement}
 use Rattle.tracer.proofs.hopped.Tie as tie
 
 returns : tie.Need-returns
-returns c =
-    c .hopped-count .ensures
+returns c = c .hopped-count .ensures
 
 pub hopped-spec : {M : Type 1} → statement M
 hopped-spec = tie.close (tie.spec (λ c κs. search needs) returns)

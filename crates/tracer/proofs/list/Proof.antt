@@ -22,11 +22,4 @@ returns c =
     listed-by st (a .site .now) (a .query) small (marks .downward) (marks .upward) (spread .ensures) (c .before .before .list .ensures)
 
 pub list-spec : {M : Type 1} → statement M
-list-spec =
-    tie.close
-    (tie.spec
-    (λ c κs. search needs)
-    (λ c κs. search needs)
-    (λ c κs. search needs)
-    (λ c. search needs)
-    returns)
+list-spec = tie.close (tie.spec (λ c κs. search needs) (λ c κs. search needs) (λ c κs. search needs) (λ c. search needs) returns)

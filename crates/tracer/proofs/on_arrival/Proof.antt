@@ -8,8 +8,7 @@ use Rattle.tracer.proofs.on_arrival.Tie as tie
 
 returns : tie.Need-returns
 unfolding onArrival
-returns c =
-    rw (sym (c .before .stays .ensures) ∙ c .if1 .taken)
+returns c = rw (sym (c .before .stays .ensures) ∙ c .if1 .taken)
 
 returns-2 : tie.Need-returns-2
 unfolding onArrival

@@ -4,8 +4,7 @@ use Rattle.tracer.proofs.refused.Statement.{statement}
 use Rattle.tracer.proofs.refused.Tie as tie
 
 returns : tie.Need-returns
-returns c =
-    rw (c .number .ensures)
+returns c = rw (c .number .ensures)
 
 pub refused-spec : {M : Type 1} → statement M
 refused-spec = tie.close (tie.spec (λ c κs. search needs) returns)

@@ -42,19 +42,6 @@ returns-3 c =
     trace-listed _ _ _ _ (sym (judge .ensures) ∙ enum-told .given .1) (back .before .before .survey .ensures) (enum-told2 .given .1) (c .before .before .list .ensures)
 
 pub trace-spec : {M : Type 1} → statement M
-trace-spec =
-    tie.close
-    (tie.spec
-    (λ c κs. search needs)
-    (λ c. search needs)
-    (λ c κs. search needs)
-    returns
-    (λ c. search needs)
-    (λ c κs. search needs)
-    (λ c. search needs)
-    (λ c κs. search needs)
-    (λ c. search needs)
-    list-requires
-    returns-2
-    (λ c. search needs)
+trace-spec = tie.close (tie.spec (λ c κs. search needs) (λ c. search needs) (λ c κs. search needs) returns (λ c. search needs)
+    (λ c κs. search needs) (λ c. search needs) (λ c κs. search needs) (λ c. search needs) list-requires returns-2 (λ c. search needs)
     returns-3)

@@ -37,16 +37,5 @@ returns-3 c =
     why-explained _ _ _ _ (sym (back .before .before .judge .ensures) ∙ enum-told .given .1) (survey .ensures) (enum-told2 .given .1) (c .explain .ensures)
 
 pub why-spec : {M : Type 1} → statement M
-why-spec =
-    tie.close
-    (tie.spec
-    (λ c κs. search needs)
-    (λ c. search needs)
-    returns
-    (λ c. search needs)
-    (λ c κs. search needs)
-    (λ c. search needs)
-    returns-2
-    (λ c. search needs)
-    explain-requires
-    returns-3)
+why-spec = tie.close (tie.spec (λ c κs. search needs) (λ c. search needs) returns (λ c. search needs) (λ c κs. search needs)
+    (λ c. search needs) returns-2 (λ c. search needs) explain-requires returns-3)

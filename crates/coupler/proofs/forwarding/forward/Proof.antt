@@ -27,13 +27,7 @@ returns-2 c =
     rw (if1 .left) (sent-tp1 (a .setting) (a .meaning) (a .payload .now) (a .room .now) (begun .pre .0) (begun .pre .1) (rw (forwarded-meaning .ensures) at (write2 .ensures)) (c .put-size2 .ensures))
 
 pub forward-spec : {M : Type 1} → statement M
-forward-spec =
-    tie.close
-    (tie.spec
-    (λ c κs. search needs)
-    (λ c κs. search needs)
-    (λ c κs. search needs)
-    (λ c κs. search needs)
+forward-spec = tie.close (tie.spec (λ c κs. search needs) (λ c κs. search needs) (λ c κs. search needs) (λ c κs. search needs)
     (λ c κs. search needs)
     -- what each arm leaves
     (λ c. search needs)

@@ -4,8 +4,7 @@ use Rattle.coupler.proofs.forwarding.forwarded_meaning.Statement.{state
 use Rattle.coupler.proofs.forwarding.forwarded_meaning.Tie as tie
 
 returns : tie.Need-returns
-returns c =
-    rw (c .hopped .ensures)
+returns c = rw (c .hopped .ensures)
 
 pub forwarded-meaning-spec : {M : Type 1} → statement M
 forwarded-meaning-spec = tie.close (tie.spec (λ c κs. search needs) returns)

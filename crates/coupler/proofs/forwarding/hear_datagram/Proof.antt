@@ -35,16 +35,5 @@ returns-2 c =
     rw (first-passed (headerTests routingService s) (cemiTests IndicationOnly (drop 6 s)) (header-verdict routingService s (sym (c .before .before .before .before .before .read-header .ensures) ∙ c .before .before .before .enum-told .given .1))) (c .meaning-only .ensures ∙ ap meaningOnly (rw (rest-is 6 s) at (c .before .read .ensures)))
 
 pub hear-datagram-spec : {M : Type 1} → statement M
-hear-datagram-spec =
-    tie.close
-    (tie.spec
-    (λ c κs. search needs)
-    (λ c. search needs)
-    (λ c. search needs)
-    sub-read
-    part-read-start
-    (λ c. search needs)
-    (λ c κs. search needs)
-    (λ c κs. search needs)
-    returns
-    returns-2)
+hear-datagram-spec = tie.close (tie.spec (λ c κs. search needs) (λ c. search needs) (λ c. search needs) sub-read part-read-start
+    (λ c. search needs) (λ c κs. search needs) (λ c κs. search needs) returns returns-2)

@@ -6,8 +6,7 @@ use Rattle.coupler.proofs.forwarding.is_repetition.Tie as tie
 
 returns : tie.Need-returns
 unfolding isRepetition
-returns c =
-    rw (← c .before .meaning-in .ensures, c .if1 .taken)
+returns c = rw (← c .before .meaning-in .ensures, c .if1 .taken)
 
 returns-2 : tie.Need-returns-2
 unfolding isRepetition

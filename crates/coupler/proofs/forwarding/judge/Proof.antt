@@ -5,8 +5,7 @@ use Rattle.coupler.proofs.forwarding.judge.Statement.{statement}
 use Rattle.coupler.proofs.forwarding.judge.Tie as tie
 
 returns : tie.Need-returns
-returns c =
-    rw (← c .before .before .are-codes .ensures, c .if1 .taken)
+returns c = rw (← c .before .before .are-codes .ensures, c .if1 .taken)
 
 returns-2 : tie.Need-returns-2
 returns-2 c =
@@ -40,5 +39,4 @@ returns-5 c =
     rw (← are-codes .ensures, c .before .before .if1 .left, ← c .before .table-fits .ensures, c .if2 .left)
 
 pub judge-spec : {M : Type 1} → statement M
-judge-spec =
-    tie.close (tie.spec (λ c κs. search needs) returns (λ c κs. search needs) returns-2 returns-3 returns-4 returns-5)
+judge-spec = tie.close (tie.spec (λ c κs. search needs) returns (λ c κs. search needs) returns-2 returns-3 returns-4 returns-5)

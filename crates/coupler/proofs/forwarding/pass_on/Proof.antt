@@ -34,14 +34,5 @@ returns-2 c =
     record { outcome = rw (c .before .acknowledgement .ensures, is-own .ensures, kind-of .ensures, is-allowed .ensures, stops); left = rw stops refl }
 
 pub pass-on-spec : {M : Type 1} → statement M
-pass-on-spec =
-    tie.close
-    (tie.spec
-    (λ c κs. search needs)
-    (λ c κs. search needs)
-    (λ c κs. search needs)
-    (λ c κs. search needs)
-    (λ c κs. search needs)
-    (λ c. search needs)
-    returns
-    returns-2)
+pass-on-spec = tie.close (tie.spec (λ c κs. search needs) (λ c κs. search needs) (λ c κs. search needs) (λ c κs. search needs)
+    (λ c κs. search needs) (λ c. search needs) returns returns-2)

@@ -45,16 +45,5 @@ returns-2 c =
     rw (heard-frame ip (a .octets .now) _ read) (handed (repeats .ensures) (rw (payload-of .ensures) at (c .before .before .pass-on .ensures)))
 
 pub receive-spec : {M : Type 1} → statement M
-receive-spec =
-    tie.close
-    (tie.spec
-    (λ c κs. search needs)
-    (λ c. search needs)
-    (λ c κs. search needs)
-    (λ c. search needs)
-    (λ c κs. search needs)
-    (λ c κs. search needs)
-    pass-on-requires
-    returns
-    (λ c. search needs)
-    returns-2)
+receive-spec = tie.close (tie.spec (λ c κs. search needs) (λ c. search needs) (λ c κs. search needs) (λ c. search needs)
+    (λ c κs. search needs) (λ c κs. search needs) pass-on-requires returns (λ c. search needs) returns-2)

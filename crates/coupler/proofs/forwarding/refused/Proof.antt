@@ -4,12 +4,7 @@ use Rattle.coupler.proofs.forwarding.refused.Statement.{statement}
 use Rattle.coupler.proofs.forwarding.refused.Tie as tie
 
 returns : tie.Need-returns
-returns c =
-    rw (c .number .ensures)
+returns c = rw (c .number .ensures)
 
 pub refused-spec : {M : Type 1} → statement M
-refused-spec =
-    tie.close
-    (tie.spec
-    (λ c κs. search needs)
-    returns)
+refused-spec = tie.close (tie.spec (λ c κs. search needs) returns)

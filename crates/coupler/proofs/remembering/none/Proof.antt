@@ -6,11 +6,7 @@ use Rattle.coupler.proofs.remembering.none.Tie as tie
 
 returns : tie.Need-returns
 unfolding zeros
-returns c =
-    refl
+returns c = refl
 
 pub none-spec : {M : Type 1} → statement M
-none-spec =
-    tie.close
-    (tie.spec
-    returns)
+none-spec = tie.close (tie.spec returns)

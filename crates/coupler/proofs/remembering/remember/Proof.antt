@@ -6,13 +6,7 @@ use Rattle.coupler.proofs.remembering.remember.Tie as tie
 
 returns : tie.Need-returns
 unfolding remembering
-returns c =
-    rw (← c .before .lay .ensures)
+returns c = rw (← c .before .lay .ensures)
 
 pub remember-spec : {M : Type 1} → statement M
-remember-spec =
-    tie.close
-    (tie.spec
-    (λ c. search needs)
-    (λ c κs. search needs)
-    returns)
+remember-spec = tie.close (tie.spec (λ c. search needs) (λ c κs. search needs) returns)

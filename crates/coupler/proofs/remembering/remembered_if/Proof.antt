@@ -6,18 +6,11 @@ use Rattle.coupler.proofs.remembering.remembered_if.Tie as tie
 
 returns : tie.Need-returns
 unfolding rememberedIf
-returns c =
-    rw (c .before .if1 .taken) (c .remember-on .ensures)
+returns c = rw (c .before .if1 .taken) (c .remember-on .ensures)
 
 returns-2 : tie.Need-returns-2
 unfolding rememberedIf
-returns-2 c =
-    rw (c .if1 .left)
+returns-2 c = rw (c .if1 .left)
 
 pub remembered-if-spec : {M : Type 1} → statement M
-remembered-if-spec =
-    tie.close
-    (tie.spec
-    (λ c κs. search needs)
-    returns
-    returns-2)
+remembered-if-spec = tie.close (tie.spec (λ c κs. search needs) returns returns-2)

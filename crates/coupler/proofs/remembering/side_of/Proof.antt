@@ -4,16 +4,10 @@ use Rattle.coupler.proofs.remembering.side_of.Statement.{statement}
 use Rattle.coupler.proofs.remembering.side_of.Tie as tie
 
 returns : tie.Need-returns
-returns c =
-    rw (eq-eqb _ _ (c .if1 .taken))
+returns c = rw (eq-eqb _ _ (c .if1 .taken))
 
 returns-2 : tie.Need-returns-2
-returns-2 c =
-    rw (ne-eqb _ _ (c .if1 .left))
+returns-2 c = rw (ne-eqb _ _ (c .if1 .left))
 
 pub side-of-spec : {M : Type 1} → statement M
-side-of-spec =
-    tie.close
-    (tie.spec
-    returns
-    returns-2)
+side-of-spec = tie.close (tie.spec returns returns-2)

@@ -11,15 +11,5 @@ returns c =
     c .before .before .before .octet5 .ensures, c .before .before .octet6 .ensures, c .before .octet7 .ensures, c .octet8 .ensures)
 
 pub codes-in-spec : {M : Type 1} → statement M
-codes-in-spec =
-    tie.close
-    (tie.spec
-    (λ c κs. search needs)
-    (λ c κs. search needs)
-    (λ c κs. search needs)
-    (λ c κs. search needs)
-    (λ c κs. search needs)
-    (λ c κs. search needs)
-    (λ c κs. search needs)
-    (λ c κs. search needs)
-    returns)
+codes-in-spec = tie.close (tie.spec (λ c κs. search needs) (λ c κs. search needs) (λ c κs. search needs) (λ c κs. search needs)
+    (λ c κs. search needs) (λ c κs. search needs) (λ c κs. search needs) (λ c κs. search needs) returns)

@@ -6,22 +6,9 @@ use Rattle.klumdray.proofs.block.of_outcome.Tie as tie
 
 returns : tie.Need-returns
 unfolding outcomeNumber
-returns c =
-    rw (c .before .before .before .of-acknowledgement .ensures, c .before .before .flag .ensures)
+returns c = rw (c .before .before .before .of-acknowledgement .ensures, c .before .before .flag .ensures)
 
 pub of-outcome-spec : {M : Type 1} → statement M
-of-outcome-spec =
-    tie.close
-    (tie.spec
-    (λ c κs. search needs)
-    (λ c. search needs)
-    (λ c κs. search needs)
-    (λ c. search needs)
-    (λ c. search needs)
-    (λ c. search needs)
-    (λ c. search needs)
-    (λ c. search needs)
-    (λ c. search needs)
-    (λ c. search needs)
-    (λ c. search needs)
-    returns)
+of-outcome-spec = tie.close (tie.spec (λ c κs. search needs) (λ c. search needs) (λ c κs. search needs) (λ c. search needs)
+    (λ c. search needs) (λ c. search needs) (λ c. search needs) (λ c. search needs) (λ c. search needs) (λ c. search needs)
+    (λ c. search needs) returns)

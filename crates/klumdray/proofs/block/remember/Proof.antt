@@ -12,15 +12,5 @@ returns c =
     rw (← low .before .high-octet .ensures, ← low .low-octet .ensures, ← back .lay .ensures) (c .before .before .lay2 .ensures)
 
 pub remember-spec : {M : Type 1} → statement M
-remember-spec =
-    tie.close
-    (tie.spec
-    (λ c. search needs)
-    (λ c κs. search needs)
-    (λ c κs. search needs)
-    (λ c. search needs)
-    (λ c κs. search needs)
-    (λ c. search needs)
-    (λ c κs. search needs)
-    (λ c. search needs)
-    returns)
+remember-spec = tie.close (tie.spec (λ c. search needs) (λ c κs. search needs) (λ c κs. search needs) (λ c. search needs)
+    (λ c κs. search needs) (λ c. search needs) (λ c κs. search needs) (λ c. search needs) returns)

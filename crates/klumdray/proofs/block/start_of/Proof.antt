@@ -6,16 +6,10 @@ use Rattle.klumdray.proofs.block.start_of.Statement.{statement}
 use Rattle.klumdray.proofs.block.start_of.Tie as tie
 
 returns : tie.Need-returns
-returns c =
-    rw (eq-eqb _ _ (c .if1 .taken)) (refl, omega arith)
+returns c = rw (eq-eqb _ _ (c .if1 .taken)) (refl, omega arith)
 
 returns-2 : tie.Need-returns-2
-returns-2 c =
-    rw (ne-eqb _ _ (c .if1 .left)) (refl, omega arith)
+returns-2 c = rw (ne-eqb _ _ (c .if1 .left)) (refl, omega arith)
 
 pub start-of-spec : {M : Type 1} → statement M
-start-of-spec =
-    tie.close
-    (tie.spec
-    returns
-    returns-2)
+start-of-spec = tie.close (tie.spec returns returns-2)

@@ -6,11 +6,7 @@ use Rattle.klumdray.proofs.numbers.are_flags.Tie as tie
 
 returns : tie.Need-returns
 unfolding areFlags
-returns c =
-    refl
+returns c = refl
 
 pub are-flags-spec : {M : Type 1} → statement M
-are-flags-spec =
-    tie.close
-    (tie.spec
-    returns)
+are-flags-spec = tie.close (tie.spec returns)

@@ -28,20 +28,8 @@ add-result-4 c =
 
 returns : tie.Need-returns
 unfolding flagsOf
-returns c =
-    rw (c .before .before .flag .ensures, c .before .flag2 .ensures, c .flag3 .ensures)
+returns c = rw (c .before .before .flag .ensures, c .before .flag2 .ensures, c .flag3 .ensures)
 
 pub flags-of-spec : {M : Type 1} → statement M
-flags-of-spec =
-    tie.close
-    (tie.spec
-    (λ c κs. search needs)
-    (λ c κs. search needs)
-    add-result
-    (λ c. search needs)
-    add-result-2
-    (λ c κs. search needs)
-    add-result-3
-    (λ c. search needs)
-    add-result-4
-    returns)
+flags-of-spec = tie.close (tie.spec (λ c κs. search needs) (λ c κs. search needs) add-result (λ c. search needs) add-result-2
+    (λ c κs. search needs) add-result-3 (λ c. search needs) add-result-4 returns)

@@ -4,21 +4,11 @@ use Rattle.klumdray.proofs.numbers.of_cemi.Statement.{statement}
 use Rattle.klumdray.proofs.numbers.of_cemi.Tie as tie
 
 returns : tie.Need-returns
-returns c =
-    rw (c .before .before .answer .given .1) (c .of-message .ensures)
+returns c = rw (c .before .before .answer .given .1) (c .of-message .ensures)
 
 returns-2 : tie.Need-returns-2
-returns-2 c =
-    rw (c .before .before .answer2 .given .1) (c .number .ensures)
+returns-2 c = rw (c .before .before .answer2 .given .1) (c .number .ensures)
 
 pub of-cemi-spec : {M : Type 1} → statement M
-of-cemi-spec =
-    tie.close
-    (tie.spec
-    (λ c. search needs)
-    (λ c κs. search needs)
-    (λ c. search needs)
-    (λ c κs. search needs)
-    (λ c. search needs)
-    returns
-    returns-2)
+of-cemi-spec = tie.close (tie.spec (λ c. search needs) (λ c κs. search needs) (λ c. search needs) (λ c κs. search needs) (λ c. search needs)
+    returns returns-2)

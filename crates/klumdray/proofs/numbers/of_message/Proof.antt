@@ -25,18 +25,8 @@ add-result c =
 
 returns : tie.Need-returns
 unfolding messageNumber
-returns c =
-    rw (c .before .before .of-code .ensures, c .before .flag .ensures, c .of-meaning .ensures)
+returns c = rw (c .before .before .of-code .ensures, c .before .flag .ensures, c .of-meaning .ensures)
 
 pub of-message-spec : {M : Type 1} → statement M
-of-message-spec =
-    tie.close
-    (tie.spec
-    (λ c κs. search needs)
-    (λ c κs. search needs)
-    add-marks
-    (λ c κs. search needs)
-    (λ c. search needs)
-    mul-result
-    add-result
-    returns)
+of-message-spec = tie.close (tie.spec (λ c κs. search needs) (λ c κs. search needs) add-marks (λ c κs. search needs) (λ c. search needs)
+    mul-result add-result returns)

@@ -13,21 +13,11 @@ mul-result c =
     omega arith
 
 returns : tie.Need-returns
-returns c =
-    rw (c .before .written .given .1)
+returns c = rw (c .before .written .given .1)
 
 returns-2 : tie.Need-returns-2
-returns-2 c =
-    rw (c .before .before .written2 .given .1) (c .number .ensures)
+returns-2 c = rw (c .before .before .written2 .given .1) (c .number .ensures)
 
 pub of-written-spec : {M : Type 1} → statement M
-of-written-spec =
-    tie.close
-    (tie.spec
-    (λ c. search needs)
-    mul-result
-    (λ c. search needs)
-    (λ c κs. search needs)
-    (λ c. search needs)
-    returns
+of-written-spec = tie.close (tie.spec (λ c. search needs) mul-result (λ c. search needs) (λ c κs. search needs) (λ c. search needs) returns
     returns-2)

@@ -7,8 +7,7 @@ use Rattle.klumdray.proofs.traces.of_traced.Tie as tie
 
 returns : tie.Need-returns
 unfolding tracedNumber
-returns c =
-    refl
+returns c = refl
 
 pub of-traced-spec : {M : Type 1} → statement M
 of-traced-spec =

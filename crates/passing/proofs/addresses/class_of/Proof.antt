@@ -8,8 +8,7 @@ use Rattle.passing.proofs.addresses.class_of.Tie as tie
 
 returns : tie.Need-returns
 unfolding classOf
-returns c =
-    rw (eq-eqb _ _ (c .before .if1 .taken), eq-eqb _ _ (c .if2 .taken)) (refl, omega arith)
+returns c = rw (eq-eqb _ _ (c .before .if1 .taken), eq-eqb _ _ (c .if2 .taken)) (refl, omega arith)
 
 returns-2 : tie.Need-returns-2
 unfolding classOf
@@ -23,14 +22,7 @@ returns-3 c =
 
 returns-4 : tie.Need-returns-4
 unfolding classOf
-returns-4 c =
-    rw (ne-eqb _ _ (c .if1 .left)) (refl, omega arith)
+returns-4 c = rw (ne-eqb _ _ (c .if1 .left)) (refl, omega arith)
 
 pub class-of-spec : {M : Type 1} → statement M
-class-of-spec =
-    tie.close
-    (tie.spec
-    returns
-    returns-2
-    returns-3
-    returns-4)
+class-of-spec = tie.close (tie.spec returns returns-2 returns-3 returns-4)

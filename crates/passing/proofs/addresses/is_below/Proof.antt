@@ -7,18 +7,11 @@ use Rattle.passing.proofs.addresses.is_below.Tie as tie
 
 returns : tie.Need-returns
 unfolding isBelow
-returns c =
-    rw (eq-eqb _ _ (c .if1 .taken))
+returns c = rw (eq-eqb _ _ (c .if1 .taken))
 
 returns-2 : tie.Need-returns-2
 unfolding isBelow
-returns-2 c =
-    rw (ne-eqb _ _ (c .if1 .left))
+returns-2 c = rw (ne-eqb _ _ (c .if1 .left))
 
 pub is-below-spec : {M : Type 1} → statement M
-is-below-spec =
-    tie.close
-    (tie.spec
-    (λ c. search needs)
-    returns
-    returns-2)
+is-below-spec = tie.close (tie.spec (λ c. search needs) returns returns-2)

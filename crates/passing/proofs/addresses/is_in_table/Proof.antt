@@ -6,15 +6,7 @@ use Rattle.passing.proofs.addresses.is_in_table.Tie as tie
 
 returns : tie.Need-returns
 unfolding isInTable
-returns c =
-    rw (c .octet .ensures)
+returns c = rw (c .octet .ensures)
 
 pub is-in-table-spec : {M : Type 1} → statement M
-is-in-table-spec =
-    tie.close
-    (tie.spec
-    (λ c. search needs)
-    (λ c κs. search needs)
-    (λ c. search needs)
-    (λ c. search needs)
-    returns)
+is-in-table-spec = tie.close (tie.spec (λ c. search needs) (λ c κs. search needs) (λ c. search needs) (λ c. search needs) returns)

@@ -7,12 +7,7 @@ use Rattle.passing.proofs.addresses.is_own.Tie as tie
 
 returns : tie.Need-returns
 unfolding isOwn
-returns c =
-    refl
+returns c = refl
 
 pub is-own-spec : {M : Type 1} → statement M
-is-own-spec =
-    tie.close
-    (tie.spec
-    (λ c. search needs)
-    returns)
+is-own-spec = tie.close (tie.spec (λ c. search needs) returns)

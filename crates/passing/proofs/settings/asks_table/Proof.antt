@@ -7,19 +7,8 @@ use Rattle.passing.proofs.settings.asks_table.Tie as tie
 
 returns : tie.Need-returns
 unfolding asksTable
-returns c =
-    refl
+returns c = refl
 
 pub asks-table-spec : {M : Type 1} → statement M
-asks-table-spec =
-    tie.close
-    (tie.spec
-    (λ c. search needs)
-    (λ c. search needs)
-    (λ c. search needs)
-    (λ c. search needs)
-    (λ c. search needs)
-    (λ c. search needs)
-    (λ c. search needs)
-    (λ c. search needs)
-    returns)
+asks-table-spec = tie.close (tie.spec (λ c. search needs) (λ c. search needs) (λ c. search needs) (λ c. search needs) (λ c. search needs)
+    (λ c. search needs) (λ c. search needs) (λ c. search needs) returns)

@@ -15,11 +15,4 @@ returns-2 c =
     rw (List·getD-eq-default (c .before .args .t1) [] none)
 
 pub code-in-spec : {M : Type 1} → statement M
-code-in-spec =
-    tie.close
-    (tie.spec
-    (λ c. search needs)
-    (λ c. search needs)
-    (λ c. search needs)
-    (λ c. search needs)
-    returns-2)
+code-in-spec = tie.close (tie.spec (λ c. search needs) (λ c. search needs) (λ c. search needs) (λ c. search needs) returns-2)

@@ -6,11 +6,7 @@ use Rattle.passing.proofs.settings.is_code.Tie as tie
 
 returns : tie.Need-returns
 unfolding isCode
-returns c =
-    refl
+returns c = refl
 
 pub is-code-spec : {M : Type 1} → statement M
-is-code-spec =
-    tie.close
-    (tie.spec
-    returns)
+is-code-spec = tie.close (tie.spec returns)

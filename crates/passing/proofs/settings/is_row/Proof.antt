@@ -10,15 +10,5 @@ returns c =
     rw (c .before .before .before .before .before .before .is-code .ensures, c .before .before .before .before .before .before .before .code-in .ensures, c .before .before .before .before .is-code2 .ensures, c .before .before .before .before .before .code-in2 .ensures, c .before .before .is-code3 .ensures, c .before .before .before .code-in3 .ensures, c .is-code4 .ensures, c .before .code-in4 .ensures)
 
 pub is-row-spec : {M : Type 1} → statement M
-is-row-spec =
-    tie.close
-    (tie.spec
-    (λ c κs. search needs)
-    (λ c κs. search needs)
-    (λ c κs. search needs)
-    (λ c κs. search needs)
-    (λ c κs. search needs)
-    (λ c κs. search needs)
-    (λ c κs. search needs)
-    (λ c κs. search needs)
-    returns)
+is-row-spec = tie.close (tie.spec (λ c κs. search needs) (λ c κs. search needs) (λ c κs. search needs) (λ c κs. search needs)
+    (λ c κs. search needs) (λ c κs. search needs) (λ c κs. search needs) (λ c κs. search needs) returns)

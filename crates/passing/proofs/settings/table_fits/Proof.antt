@@ -6,12 +6,7 @@ use Rattle.passing.proofs.settings.table_fits.Tie as tie
 
 returns : tie.Need-returns
 unfolding tableFits
-returns c =
-    rw (c .asks-table .ensures)
+returns c = rw (c .asks-table .ensures)
 
 pub table-fits-spec : {M : Type 1} → statement M
-table-fits-spec =
-    tie.close
-    (tie.spec
-    (λ c κs. search needs)
-    returns)
+table-fits-spec = tie.close (tie.spec (λ c κs. search needs) returns)

@@ -20,12 +20,10 @@ abbrev μ-put-decimal : Measures 1 put-decimal-kinds.ps ℕ
 μ-put-decimal κs a = a .0
 
 abbrev put-decimal-at : ℕ → In 1 put-decimal-kinds.ps
-put-decimal-at t =
-    and 1 put-decimal-kinds.ps (is 1 put-decimal-kinds.ps μ-put-decimal t) put-decimal.Pre
+put-decimal-at t = and 1 put-decimal-kinds.ps (is 1 put-decimal-kinds.ps μ-put-decimal t) put-decimal.Pre
 
 abbrev put-decimal-below : ℕ → In 1 put-decimal-kinds.ps
-put-decimal-below t =
-    and 1 put-decimal-kinds.ps (falls 1 put-decimal-kinds.ps _<_ μ-put-decimal t) put-decimal.Pre
+put-decimal-below t = and 1 put-decimal-kinds.ps (falls 1 put-decimal-kinds.ps _<_ μ-put-decimal t) put-decimal.Pre
 
 abbrev known : ℕ → put-decimal-lts.Claims
 known t = (put-digit-reads.Asked, put-digit-reads.Learnt, put-decimal-below t, put-decimal.Post)
@@ -37,12 +35,10 @@ put-decimal-put-digit-requires t c κs =
     subst (λ (s : List ℕ). Fits s (a .at) (a .room .now)) (decimal-one (a .number) (c .before .if1 .taken)) (begun .pre .1)
 
 put-decimal-same-length : (t : ℕ) → put-decimal-lts.Need-same-length (known t) (put-decimal-at t) put-decimal.Post
-put-decimal-same-length t c =
-    c .before .before .put-digit .kept .1 .1 .0
+put-decimal-same-length t c = c .before .before .put-digit .kept .1 .1 .0
 
 put-decimal-returns : (t : ℕ) → put-decimal-lts.Need-returns (known t) (put-decimal-at t) put-decimal.Post
-put-decimal-returns t c =
-    puts-one (c .before .before .before .before .if1 .taken) (c .before .before .put-digit .ensures)
+put-decimal-returns t c = puts-one (c .before .before .before .before .if1 .taken) (c .before .before .put-digit .ensures)
 
 put-decimal-put-decimal-requires : (t : ℕ) → put-decimal-lts.Need-put-decimal-requires (known t) (put-decimal-at t) put-decimal.Post
 put-decimal-put-decimal-requires t c κs =

@@ -49,19 +49,6 @@ returns c =
     put-line _ _ _ _ _ (begun .pre) (first .put-decimal .ensures) (named .ensures) (counted .ensures) (back .before .put-told3 .ensures) (c .before .before .put .ensures)
 
 pub put-line-spec : {M : Type 1} → statement M
-put-line-spec =
-    tie.close
-    (tie.spec
-    (λ c. search needs)
-    put-decimal-requires
-    (λ c. search needs)
-    (λ c. search needs)
-    put-told-requires
-    (λ c. search needs)
-    put-told-requires-2
-    (λ c. search needs)
-    put-told-requires-3
-    (λ c. search needs)
-    put-requires
-    (λ c. search needs)
+put-line-spec = tie.close (tie.spec (λ c. search needs) put-decimal-requires (λ c. search needs) (λ c. search needs) put-told-requires
+    (λ c. search needs) put-told-requires-2 (λ c. search needs) put-told-requires-3 (λ c. search needs) put-requires (λ c. search needs)
     returns)

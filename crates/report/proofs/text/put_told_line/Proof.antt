@@ -29,5 +29,4 @@ returns c =
     puts-then _ _ (begun .args .at) (begun .args .room .now) (begun .pre) (back .before .put-told .ensures) (c .before .before .put .ensures)
 
 pub put-told-line-spec : {M : Type 1} → statement M
-put-told-line-spec =
-    tie.close (tie.spec put-told-requires (λ c. search needs) put-requires (λ c. search needs) returns)
+put-told-line-spec = tie.close (tie.spec put-told-requires (λ c. search needs) put-requires (λ c. search needs) returns)

@@ -11,15 +11,5 @@ returns c =
     rw (c .before .before .before .before .before .before .before .octet .ensures, c .before .before .before .before .before .before .octet2 .ensures, c .before .before .before .before .before .octet3 .ensures, c .before .before .before .before .octet4 .ensures, c .before .before .before .octet5 .ensures, c .before .before .octet6 .ensures, c .before .octet7 .ensures, c .octet8 .ensures) refl
 
 pub codes-of-spec : {M : Type 1} → statement M
-codes-of-spec =
-    tie.close
-    (tie.spec
-    (λ c κs. search needs)
-    (λ c κs. search needs)
-    (λ c κs. search needs)
-    (λ c κs. search needs)
-    (λ c κs. search needs)
-    (λ c κs. search needs)
-    (λ c κs. search needs)
-    (λ c κs. search needs)
-    returns)
+codes-of-spec = tie.close (tie.spec (λ c κs. search needs) (λ c κs. search needs) (λ c κs. search needs) (λ c κs. search needs)
+    (λ c κs. search needs) (λ c κs. search needs) (λ c κs. search needs) (λ c κs. search needs) returns)

@@ -25,13 +25,5 @@ returns-2 c =
     rw (lt-leb 12 (length (drop (asked .start) (asked .site .now))) (omega (arith, left))) refl
 
 pub record-from-spec : {M : Type 1} → statement M
-record-from-spec =
-    tie.close
-    (tie.spec
-    (λ c. search needs)
-    (λ c. search needs)
-    (λ c. search needs)
-    (λ c. search needs)
-    (λ c. search needs)
-    returns
-    returns-2)
+record-from-spec = tie.close (tie.spec (λ c. search needs) (λ c. search needs) (λ c. search needs) (λ c. search needs) (λ c. search needs)
+    returns returns-2)

@@ -7,8 +7,7 @@ use Rattle.site.proofs.stores.is_store.Tie as tie
 
 returns : tie.Need-returns
 unfolding isStore
-returns c =
-    refl
+returns c = refl
 
 pub is-store-spec : {M : Type 1} → statement M
 is-store-spec = tie.close (tie.spec (λ c. search needs) returns)

@@ -7,8 +7,7 @@ use Rattle.telegrams.proofs.lists.front.Statement.{statement}
 use Rattle.telegrams.proofs.lists.front.Tie as tie
 
 slice-aggregate-result : tie.Need-slice-aggregate-result
-slice-aggregate-result c =
-    sym (length-take-le _ _ (omega arith))
+slice-aggregate-result c = sym (length-take-le _ _ (omega arith))
 
 pub front-spec : {M : Type 1} → statement M
 front-spec = tie.close (tie.spec slice-aggregate-result (λ c. search needs) (λ c. search needs))

@@ -7,24 +7,12 @@ use Rattle.tp1.proofs.reading.frame_size.Tie as tie
 
 returns : tie.Need-returns
 unfolding frameSize
-returns c =
-    rw (sym (c .before .before .is-extended .ensures) ∙ c .before .if1 .taken, c .octet .ensures)
+returns c = rw (sym (c .before .before .is-extended .ensures) ∙ c .before .if1 .taken, c .octet .ensures)
 
 returns-2 : tie.Need-returns-2
 unfolding frameSize
-returns-2 c =
-    rw (sym (c .before .before .is-extended .ensures) ∙ c .before .if1 .left, c .octet2 .ensures)
+returns-2 c = rw (sym (c .before .before .is-extended .ensures) ∙ c .before .if1 .left, c .octet2 .ensures)
 
 pub frame-size-spec : {M : Type 1} → statement M
-frame-size-spec =
-    tie.close
-    (tie.spec
-    (λ c κs. search needs)
-    (λ c κs. search needs)
-    (λ c. search needs)
-    (λ c. search needs)
-    (λ c κs. search needs)
-    (λ c. search needs)
-    (λ c. search needs)
-    returns
-    returns-2)
+frame-size-spec = tie.close (tie.spec (λ c κs. search needs) (λ c κs. search needs) (λ c. search needs) (λ c. search needs)
+    (λ c κs. search needs) (λ c. search needs) (λ c. search needs) returns returns-2)

@@ -8,20 +8,11 @@ use Rattle.tp1.proofs.reading.is_checked.Statement.{statement}
 use Rattle.tp1.proofs.reading.is_checked.Tie as tie
 
 slice-aggregate-check-octet : tie.Need-slice-aggregate-check-octet
-slice-aggregate-check-octet c =
-    sym (length-take-le _ _ (omega arith))
+slice-aggregate-check-octet c = sym (length-take-le _ _ (omega arith))
 
 returns : tie.Need-returns
 unfolding isChecked
-returns c =
-    rw (c .check-octet .ensures)
+returns c = rw (c .check-octet .ensures)
 
 pub is-checked-spec : {M : Type 1} → statement M
-is-checked-spec =
-    tie.close
-    (tie.spec
-    (λ c. search needs)
-    (λ c. search needs)
-    slice-aggregate-check-octet
-    (λ c κs. search needs)
-    returns)
+is-checked-spec = tie.close (tie.spec (λ c. search needs) (λ c. search needs) slice-aggregate-check-octet (λ c κs. search needs) returns)

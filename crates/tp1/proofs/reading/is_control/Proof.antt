@@ -6,11 +6,7 @@ use Rattle.tp1.proofs.reading.is_control.Tie as tie
 
 returns : tie.Need-returns
 unfolding isControl
-returns c =
-    refl
+returns c = refl
 
 pub is-control-spec : {M : Type 1} → statement M
-is-control-spec =
-    tie.close
-    (tie.spec
-    returns)
+is-control-spec = tie.close (tie.spec returns)

@@ -6,12 +6,7 @@ use Rattle.tp1.proofs.reading.is_extended.Tie as tie
 
 returns : tie.Need-returns
 unfolding isExtended
-returns c =
-    rw (c .octet .ensures)
+returns c = rw (c .octet .ensures)
 
 pub is-extended-spec : {M : Type 1} → statement M
-is-extended-spec =
-    tie.close
-    (tie.spec
-    (λ c κs. search needs)
-    returns)
+is-extended-spec = tie.close (tie.spec (λ c κs. search needs) returns)

@@ -38,8 +38,7 @@ unfolding meaningIn
 looked-at s b at head control ctrle source destination m e a p o x f t z = z ∙ rw (o, x, f, t, a, p, e) (placed s (isExtended s))
 
 sub-start : tie.Need-sub-start
-sub-start c =
-    omega (arith, c .head-of .ensures, head-least (c .before .before .is-extended .result))
+sub-start c = omega (arith, c .head-of .ensures, head-least (c .before .before .is-extended .result))
 
 add-word-at : tie.Need-add-word-at
 add-word-at c =
@@ -51,17 +50,5 @@ returns c =
     looked-at (back .before .before .before .args .octets .now) _ _ _ _ _ _ _ _ (back .before .is-extended .ensures) (c .before .before .before .before .before .before .ctrle-at .ensures) (c .before .before .before .before .before .head-of .ensures) (c .before .before .before .before .octet .ensures) (c .before .before .before .octet2 .ensures) (c .before .before .word-at .ensures) (c .before .word-at2 .ensures) (c .meaning-of .ensures)
 
 pub meaning-in-spec : {M : Type 1} → statement M
-meaning-in-spec =
-    tie.close
-    (tie.spec
-    (λ c κs. search needs)
-    (λ c κs. search needs)
-    (λ c κs. search needs)
-    sub-start
-    (λ c κs. search needs)
-    (λ c κs. search needs)
-    (λ c κs. search needs)
-    add-word-at
-    (λ c κs. search needs)
-    (λ c κs. search needs)
-    returns)
+meaning-in-spec = tie.close (tie.spec (λ c κs. search needs) (λ c κs. search needs) (λ c κs. search needs) sub-start (λ c κs. search needs)
+    (λ c κs. search needs) (λ c κs. search needs) add-word-at (λ c κs. search needs) (λ c κs. search needs) returns)

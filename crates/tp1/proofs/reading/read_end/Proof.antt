@@ -10,13 +10,11 @@ use Rattle.tp1.proofs.reading.read_end.Tie as tie
 
 returns : tie.Need-returns
 unfolding readFrom
-returns c =
-    rw (← c .before .frame-size .ensures, lt-ltb _ _ (c .if1 .taken))
+returns c = rw (← c .before .frame-size .ensures, lt-ltb _ _ (c .if1 .taken))
 
 returns-2 : tie.Need-returns-2
 unfolding readFrom
-returns-2 c =
-    rw (← c .before .before .frame-size .ensures, le-ltb _ _ (c .before .if1 .left), lt-ltb _ _ (c .if2 .taken))
+returns-2 c = rw (← c .before .before .frame-size .ensures, le-ltb _ _ (c .before .if1 .left), lt-ltb _ _ (c .if2 .taken))
 
 is-checked-requires : tie.Need-is-checked-requires
 is-checked-requires c κs =
@@ -33,13 +31,4 @@ returns-4 c =
     rw (← c .before .before .before .before .frame-size .ensures, le-ltb _ _ (c .before .before .before .if1 .left), le-ltb _ _ (c .before .before .if2 .left), sym (c .before .is-checked .ensures) ∙ c .if3 .left)
 
 pub read-end-spec : {M : Type 1} → statement M
-read-end-spec =
-    tie.close
-    (tie.spec
-    (λ c κs. search needs)
-    is-checked-requires
-    (λ c κs. search needs)
-    returns
-    returns-2
-    returns-3
-    returns-4)
+read-end-spec = tie.close (tie.spec (λ c κs. search needs) is-checked-requires (λ c κs. search needs) returns returns-2 returns-3 returns-4)

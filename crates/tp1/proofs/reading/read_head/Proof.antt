@@ -18,8 +18,7 @@ least s b n e h = rw (← e) (sym h)
 
 returns : tie.Need-returns
 unfolding readFrom
-returns c =
-    rw (least _ _ _ (c .before .before .is-extended .ensures) (c .before .head-of .ensures), lt-ltb _ _ (c .if1 .taken))
+returns c = rw (least _ _ _ (c .before .before .is-extended .ensures) (c .before .head-of .ensures), lt-ltb _ _ (c .if1 .taken))
 
 returns-2 : tie.Need-returns-2
 unfolding readFrom
@@ -37,15 +36,5 @@ returns-4 c =
     rw (least _ _ _ (c .before .before .before .before .before .before .before .is-extended .ensures) (c .before .before .before .before .before .before .head-of .ensures), le-ltb _ _ (c .before .before .before .before .before .if1 .left), sym (c .before .before .before .before .is-other-format .ensures) ∙ c .before .before .before .if2 .left, sym (c .before .before .is-escape .ensures) ∙ c .before .if3 .left) (c .read-end .ensures)
 
 pub read-head-spec : {M : Type 1} → statement M
-read-head-spec =
-    tie.close
-    (tie.spec
-    (λ c κs. search needs)
-    (λ c κs. search needs)
-    (λ c κs. search needs)
-    (λ c κs. search needs)
-    (λ c κs. search needs)
-    returns
-    returns-2
-    returns-3
-    returns-4)
+read-head-spec = tie.close (tie.spec (λ c κs. search needs) (λ c κs. search needs) (λ c κs. search needs) (λ c κs. search needs)
+    (λ c κs. search needs) returns returns-2 returns-3 returns-4)

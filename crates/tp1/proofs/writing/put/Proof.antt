@@ -31,15 +31,5 @@ returns c =
     frame-room (a .meaning) (a .payload .now) (a .room .now) (at-head-of .result) (at-head-of .ensures) (begun .pre .1) (back .before .before .before .before .put-head .ensures) (c .before .before .before .before .before .before .lay .ensures) (c .before .before .seal .ensures)
 
 pub put-spec : {M : Type 1} → statement M
-put-spec =
-    tie.close
-    (tie.spec
-    sub-lg
-    cast-lg
-    (λ c κs. search needs)
-    put-head-requires
-    (λ c κs. search needs)
-    (λ c. search needs)
-    (λ c κs. search needs)
-    (λ c. search needs)
-    returns)
+put-spec = tie.close (tie.spec sub-lg cast-lg (λ c κs. search needs) put-head-requires (λ c κs. search needs) (λ c. search needs)
+    (λ c κs. search needs) (λ c. search needs) returns)

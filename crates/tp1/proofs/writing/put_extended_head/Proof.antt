@@ -9,16 +9,5 @@ returns c =
     rw (← back .before .before .before .before .control .ensures, ← back .before .before .before .ctrle .ensures, ← back .before .before .high-octet .ensures, ← back .before .low-octet .ensures, ← c .before .before .before .before .before .before .high-octet2 .ensures, ← c .before .before .before .before .before .low-octet2 .ensures) (c .before .before .lay .ensures)
 
 pub put-extended-head-spec : {M : Type 1} → statement M
-put-extended-head-spec =
-    tie.close
-    (tie.spec
-    (λ c κs. search needs)
-    (λ c κs. search needs)
-    (λ c κs. search needs)
-    (λ c κs. search needs)
-    (λ c κs. search needs)
-    (λ c κs. search needs)
-    (λ c. search needs)
-    (λ c κs. search needs)
-    (λ c. search needs)
-    returns)
+put-extended-head-spec = tie.close (tie.spec (λ c κs. search needs) (λ c κs. search needs) (λ c κs. search needs) (λ c κs. search needs)
+    (λ c κs. search needs) (λ c κs. search needs) (λ c. search needs) (λ c κs. search needs) (λ c. search needs) returns)

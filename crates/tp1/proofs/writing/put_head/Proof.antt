@@ -15,12 +15,4 @@ returns-2 c =
     rw (head-standard (a .meaning) (a .lg) (c .before .before .before .before .if1 .left)) (c .before .before .put-standard-head .ensures)
 
 pub put-head-spec : {M : Type 1} → statement M
-put-head-spec =
-    tie.close
-    (tie.spec
-    (λ c κs. search needs)
-    (λ c κs. search needs)
-    (λ c. search needs)
-    returns
-    (λ c. search needs)
-    returns-2)
+put-head-spec = tie.close (tie.spec (λ c κs. search needs) (λ c κs. search needs) (λ c. search needs) returns (λ c. search needs) returns-2)

@@ -9,16 +9,5 @@ returns c =
     rw (← back .before .before .before .before .control .ensures, ← back .before .before .before .high-octet .ensures, ← back .before .before .low-octet .ensures, ← back .before .high-octet2 .ensures, ← c .before .before .before .before .before .before .low-octet2 .ensures, ← c .before .before .before .before .before .ctrle .ensures) (c .before .before .lay .ensures)
 
 pub put-standard-head-spec : {M : Type 1} → statement M
-put-standard-head-spec =
-    tie.close
-    (tie.spec
-    (λ c κs. search needs)
-    (λ c κs. search needs)
-    (λ c κs. search needs)
-    (λ c κs. search needs)
-    (λ c κs. search needs)
-    (λ c κs. search needs)
-    (λ c. search needs)
-    (λ c κs. search needs)
-    (λ c. search needs)
-    returns)
+put-standard-head-spec = tie.close (tie.spec (λ c κs. search needs) (λ c κs. search needs) (λ c κs. search needs) (λ c κs. search needs)
+    (λ c κs. search needs) (λ c κs. search needs) (λ c. search needs) (λ c κs. search needs) (λ c. search needs) returns)

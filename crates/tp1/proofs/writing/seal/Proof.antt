@@ -7,20 +7,11 @@ use Rattle.tp1.proofs.writing.seal.Statement.{statement}
 use Rattle.tp1.proofs.writing.seal.Tie as tie
 
 slice-aggregate-check-octet : tie.Need-slice-aggregate-check-octet
-slice-aggregate-check-octet c =
-    sym (length-take-le _ _ (omega arith))
+slice-aggregate-check-octet c = sym (length-take-le _ _ (omega arith))
 
 returns : tie.Need-returns
-returns c =
-    rw (c .check-octet .ensures)
+returns c = rw (c .check-octet .ensures)
 
 pub seal-spec : {M : Type 1} → statement M
-seal-spec =
-    tie.close
-    (tie.spec
-    (λ c. search needs)
-    slice-aggregate-check-octet
-    (λ c κs. search needs)
-    (λ c. search needs)
-    (λ c. search needs)
-    returns)
+seal-spec = tie.close (tie.spec (λ c. search needs) slice-aggregate-check-octet (λ c κs. search needs) (λ c. search needs)
+    (λ c. search needs) returns)

@@ -21,16 +21,5 @@ returns-2 c =
     line-laid (a .query) (a .line) (a .listed) (a .lines .now) (a .room .now) (if1 .left) (on-arrival .ensures) (c .before .before .lay .ensures)
 
 pub list-line-spec : {M : Type 1} → statement M
-list-line-spec =
-    tie.close
-    (tie.spec
-    (λ c. search needs)
-    returns
-    (λ c. search needs)
-    (λ c κs. search needs)
-    (λ c. search needs)
-    (λ c. search needs)
-    (λ c κs. search needs)
-    (λ c. search needs)
-    (λ c. search needs)
-    returns-2)
+list-line-spec = tie.close (tie.spec (λ c. search needs) returns (λ c. search needs) (λ c κs. search needs) (λ c. search needs)
+    (λ c. search needs) (λ c κs. search needs) (λ c. search needs) (λ c. search needs) returns-2)

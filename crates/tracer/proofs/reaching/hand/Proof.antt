@@ -8,13 +8,11 @@ use Rattle.tracer.proofs.reaching.hand.Tie as tie
 
 returns : tie.Need-returns
 unfolding handed lasts
-returns c =
-    rw (c .if1 .taken) (omega arith)
+returns c = rw (c .if1 .taken) (omega arith)
 
 returns-2 : tie.Need-returns-2
 unfolding handed lasts
-returns-2 c =
-    rw (c .if1 .left)
+returns-2 c = rw (c .if1 .left)
 
 pub hand-spec : {M : Type 1} → statement M
 hand-spec = tie.close (tie.spec (λ c. search needs) returns returns-2)

@@ -15,16 +15,13 @@ Inv-loop down up start count lines₀ forwardings₀ line₀ lines forwardings l
     Spreading (marked down up) start count lines forwardings line
 
 abbrev μ-loop : tie.MeasureT-loop
-μ-loop down up start count lines₀ forwardings₀ line₀ lines forwardings line =
-    256 - line
+μ-loop down up start count lines₀ forwardings₀ line₀ lines forwardings line = 256 - line
 
 loop-holds : tie.Need-loop-holds Inv-loop μ-loop
-loop-holds c =
-    spreading-none (marked (c .args .down .now) (c .args .up .now)) (c .args .start) (c .args .count) _ refl
+loop-holds c = spreading-none (marked (c .args .down .now) (c .args .up .now)) (c .args .start) (c .args .count) _ refl
 
 cast-reach-of : tie.Need-cast-reach-of Inv-loop μ-loop
-cast-reach-of c =
-    omega arith
+cast-reach-of c = omega arith
 
 reach-of-requires : tie.Need-reach-of-requires Inv-loop μ-loop
 reach-of-requires c κs =
@@ -32,20 +29,16 @@ reach-of-requires c κs =
     omega (arith, at-loop .inv .few (mainSide (at-loop .line)))
 
 array-write-lines : tie.Need-array-write-lines Inv-loop μ-loop
-array-write-lines c =
-    omega arith
+array-write-lines c = omega arith
 
 add-forwardings : tie.Need-add-forwardings Inv-loop μ-loop
-add-forwardings c =
-    omega (arith, made-few (c .before .before .before .before .loop .inv))
+add-forwardings c = omega (arith, made-few (c .before .before .before .before .loop .inv))
 
 add-line : tie.Need-add-line Inv-loop μ-loop
-add-line c =
-    omega arith
+add-line c = omega arith
 
 loop-less : tie.Need-loop-less Inv-loop μ-loop
-loop-less c =
-    omega arith
+loop-less c = omega arith
 
 loop-again : tie.Need-loop-again Inv-loop μ-loop
 loop-again c =
@@ -54,21 +47,8 @@ loop-again c =
     (⊎-elim (λ w. rw (lt-ltb 1 _ (w .0 .taken)) (w .1)) (λ w. rw (le-ltb 1 _ (w .0 .left)) (omega (arith, w .1))) (c .if1 .came))
 
 returns : tie.Need-returns Inv-loop μ-loop
-returns c =
-    spreading-all (c .before .loop .inv) (c .loop-test .left)
+returns c = spreading-all (c .before .loop .inv) (c .loop-test .left)
 
 pub spread-spec : {M : Type 1} → statement M
-spread-spec =
-    tie.close
-    (tie.spec
-    Inv-loop
-    μ-loop
-    loop-holds
-    cast-reach-of
-    reach-of-requires
-    array-write-lines
-    add-forwardings
-    add-line
-    loop-less
-    loop-again
-    returns)
+spread-spec = tie.close (tie.spec Inv-loop μ-loop loop-holds cast-reach-of reach-of-requires array-write-lines add-forwardings add-line
+    loop-less loop-again returns)

@@ -24,15 +24,13 @@ abbrev walk-down-at : ℕ → In 3 walk-down-kinds.ps
 walk-down-at t = and 3 walk-down-kinds.ps (is 3 walk-down-kinds.ps μ-walk-down t) walk-down.Pre
 
 abbrev walk-down-below : ℕ → In 3 walk-down-kinds.ps
-walk-down-below t =
-    and 3 walk-down-kinds.ps (falls 3 walk-down-kinds.ps _<_ μ-walk-down t) walk-down.Pre
+walk-down-below t = and 3 walk-down-kinds.ps (falls 3 walk-down-kinds.ps _<_ μ-walk-down t) walk-down.Pre
 
 abbrev known : ℕ → walk-down-lts.Claims
 known t = (is-above-reads.Asked, is-above-reads.Learnt, main-side-reads.Asked, main-side-reads.Learnt, walk-down-below t, walk-down.Post, hand-on-reads.Asked, hand-on-reads.Learnt)
 
 walk-down-returns : (t : ℕ) → walk-down-lts.Need-returns (known t) (walk-down-at t) walk-down.Post
-walk-down-returns t c =
-    down-joined _ _ _ _ _ _ (c .before .is-above .ensures) (c .if1 .taken)
+walk-down-returns t c = down-joined _ _ _ _ _ _ (c .before .is-above .ensures) (c .if1 .taken)
 
 walk-down-walk-down-requires : (t : ℕ) → walk-down-lts.Need-walk-down-requires (known t) (walk-down-at t) walk-down.Post
 walk-down-walk-down-requires t c κs =

@@ -30,8 +30,7 @@ abbrev known : ℕ → walk-up-lts.Claims
 known t = (is-above-reads.Asked, is-above-reads.Learnt, hand-on-reads.Asked, hand-on-reads.Learnt, main-side-reads.Asked, main-side-reads.Learnt, walk-up-below t, walk-up.Post)
 
 walk-up-returns : (t : ℕ) → walk-up-lts.Need-returns (known t) (walk-up-at t) walk-up.Post
-walk-up-returns t c =
-    up-joined _ _ _ _ _ _ (c .before .is-above .ensures) (c .if1 .taken)
+walk-up-returns t c = up-joined _ _ _ _ _ _ (c .before .is-above .ensures) (c .if1 .taken)
 
 walk-up-walk-up-requires : (t : ℕ) → walk-up-lts.Need-walk-up-requires (known t) (walk-up-at t) walk-up.Post
 walk-up-walk-up-requires t c κs =

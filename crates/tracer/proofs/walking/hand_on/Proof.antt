@@ -19,8 +19,7 @@ returns c =
     hand-goes _ _ _ _ _ (walk2 .given .1) reason (c .before .before .does-pass .ensures) (c .before .if1 .taken) (c .hopped .ensures)
 
 returns-2 : tie.Need-returns-2
-returns-2 c =
-    hand-stopped _ _ _ _ _ (c .before .walk .given .1)
+returns-2 c = hand-stopped _ _ _ _ _ (c .before .walk .given .1)
 
 returns-3 : tie.Need-returns-3
 returns-3 c =
@@ -33,14 +32,5 @@ returns-3 c =
     hand-stops _ _ _ _ _ (walk2 .given .1) reason (c .before .does-pass .ensures) (c .if1 .left)
 
 pub hand-on-spec : {M : Type 1} → statement M
-hand-on-spec =
-    tie.close
-    (tie.spec
-    (λ c. search needs)
-    (λ c. search needs)
-    (λ c κs. search needs)
-    (λ c κs. search needs)
-    (λ c κs. search needs)
-    returns
-    returns-2
-    returns-3)
+hand-on-spec = tie.close (tie.spec (λ c. search needs) (λ c. search needs) (λ c κs. search needs) (λ c κs. search needs)
+    (λ c κs. search needs) returns returns-2 returns-3)
