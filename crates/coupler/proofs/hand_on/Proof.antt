@@ -32,8 +32,7 @@ returns-2 c =
     let then = c .before .before .before .before .before .before in
     let enum-told = c .before .before .before .before .enum-told in
     let judge = then .judge in
-    let back = then in
-    let begun = back .before .before .before .before .before in
+    let begun = then .before .before .before .before .before in
     let a = begun .args in
     let k = couplerBy (a .setting) (a .codes) (a .table .now) in
     handed-on (ap (λ (v : Verdict). after v (readBy (fromIp k) (a .octets .now))) (sym (judge .ensures) ∙ enum-told .given .1)) (c .before .before .receive .ensures)

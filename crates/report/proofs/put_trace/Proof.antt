@@ -33,8 +33,7 @@ put-listed-requires : tie.Need-put-listed-requires
 put-listed-requires c κs =
     let then = c .before .before .before .before .before .before in
     let trace = then .trace in
-    let back = then in
-    let further = back .before .before .before .before .before .before in
+    let further = then .before .before .before .before .before .before in
     let begun = further .before in
     let within = array-share-prefix-list (c .before .before) in
     (rw (length-take-le _ _ within) (omega (arith, within, trace .kept .1 .1 .1 .1 .0)), begun .pre .1)
@@ -43,9 +42,8 @@ returns-2 : tie.Need-returns-2
 returns-2 c =
     let then = c .before .before .before .before .before .before in
     let if1 = then .if1 in
-    let back = then in
-    let trace = back .before .before .before .trace in
-    let further = back .before .before .before .before .before .before in
+    let trace = then .before .before .before .trace in
+    let further = then .before .before .before .before .before .before in
     let begun = further .before .before .before .before in
     puts-as (traced-listed (begun .args .input .now) (further .before .query-in .ensures) (trace .ensures) (if1 .left) (trace .kept .1 .1 .1 .1 .0) .told) (c .before .before .put-listed .ensures)
 

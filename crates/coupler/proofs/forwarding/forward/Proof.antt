@@ -10,8 +10,7 @@ returns c =
     let write = c .before .before .before .write in
     let if1 = c .before .before .before .before .before .if1 in
     let forwarded-meaning = then .forwarded-meaning in
-    let back = then in
-    let begun = back .before .before .before in
+    let begun = then .before .before .before in
     let a = begun .args in
     rw (if1 .taken) (sent-ip (a .setting) (a .meaning) (a .payload .now) (a .room .now) (begun .pre .0) (begun .pre .1) (rw (forwarded-meaning .ensures) at (write .ensures)) (c .put-size .ensures))
 
@@ -21,8 +20,7 @@ returns-2 c =
     let write2 = c .before .before .before .write2 in
     let if1 = c .before .before .before .before .before .if1 in
     let forwarded-meaning = then .forwarded-meaning in
-    let back = then in
-    let begun = back .before .before .before in
+    let begun = then .before .before .before in
     let a = begun .args in
     rw (if1 .left) (sent-tp1 (a .setting) (a .meaning) (a .payload .now) (a .room .now) (begun .pre .0) (begun .pre .1) (rw (forwarded-meaning .ensures) at (write2 .ensures)) (c .put-size2 .ensures))
 

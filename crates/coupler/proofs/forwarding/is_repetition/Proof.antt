@@ -13,8 +13,7 @@ unfolding isRepetition
 returns-2 c =
     let then = c .before .before .before .before .before .before in
     let meaning-in2 = then .meaning-in2 in
-    let back = then in
-    rw (← back .before .before .meaning-in .ensures, back .before .if1 .left, ← meaning-in2 .ensures)
+    rw (← then .before .before .meaning-in .ensures, then .before .if1 .left, ← meaning-in2 .ensures)
 
 pub is-repetition-spec : {M : Type 1} → statement M
 is-repetition-spec = tie.close (tie.spec (λ c κs. search needs) returns (λ c κs. search needs) returns-2)

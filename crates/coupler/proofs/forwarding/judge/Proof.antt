@@ -13,8 +13,7 @@ returns-2 c =
     let if2 = c .before .before .before .before .if2 in
     let table-fits = c .before .before .before .before .before .table-fits in
     let if1 = then .if1 in
-    let back = then in
-    rw (← back .before .before .are-codes .ensures, if1 .left, ← table-fits .ensures, if2 .taken, c .before .if3 .taken, lt-ltb _ _ (c .if4 .taken))
+    rw (← then .before .before .are-codes .ensures, if1 .left, ← table-fits .ensures, if2 .taken, c .before .if3 .taken, lt-ltb _ _ (c .if4 .taken))
 
 returns-3 : tie.Need-returns-3
 returns-3 c =
@@ -22,8 +21,7 @@ returns-3 c =
     let if2 = c .before .before .before .before .if2 in
     let table-fits = c .before .before .before .before .before .table-fits in
     let if1 = then .if1 in
-    let back = then in
-    rw (← back .before .before .are-codes .ensures, if1 .left, ← table-fits .ensures, if2 .taken, c .before .if3 .taken, le-ltb _ _ (c .if4 .left))
+    rw (← then .before .before .are-codes .ensures, if1 .left, ← table-fits .ensures, if2 .taken, c .before .if3 .taken, le-ltb _ _ (c .if4 .left))
 
 returns-4 : tie.Need-returns-4
 returns-4 c =

@@ -10,15 +10,14 @@ returns c =
     let then = c .before .before .before .before .before .before in
     let forward = c .before .before .forward in
     let if1 = then .if1 in
-    let back = then in
-    let is-allowed = back .before .before .before .before .is-allowed in
-    let is-own = back .before .before .before .before .before .is-own in
-    let kind-of = back .before .before .before .before .before .before .kind-of in
-    let further = back .before .before .before .before .before .before in
+    let is-allowed = then .before .before .before .before .is-allowed in
+    let is-own = then .before .before .before .before .before .is-own in
+    let kind-of = then .before .before .before .before .before .before .kind-of in
+    let further = then .before .before .before .before .before .before in
     let begun = further .before .before .before .before in
     let forwards = ap (λ (b : Bool). b && not (begun .args .repetition)) (sym (is-allowed .ensures)) ∙ if1 .taken in
     record {
-      outcome = rw (back .before .acknowledgement .ensures, is-own .ensures, kind-of .ensures, is-allowed .ensures, forwards, forward .ensures .count);
+      outcome = rw (then .before .acknowledgement .ensures, is-own .ensures, kind-of .ensures, is-allowed .ensures, forwards, forward .ensures .count);
       left = rw forwards (forward .ensures .left);
     }
 
@@ -28,8 +27,7 @@ returns-2 c =
     let is-allowed = c .before .before .before .before .is-allowed in
     let is-own = c .before .before .before .before .before .is-own in
     let kind-of = then .kind-of in
-    let back = then in
-    let begun = back .before .before .before .before in
+    let begun = then .before .before .before .before in
     let stops = ap (λ (b : Bool). b && not (begun .args .repetition)) (sym (is-allowed .ensures)) ∙ c .if1 .left in
     record { outcome = rw (c .before .acknowledgement .ensures, is-own .ensures, kind-of .ensures, is-allowed .ensures, stops); left = rw stops refl }
 

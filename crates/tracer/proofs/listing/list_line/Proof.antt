@@ -15,8 +15,7 @@ returns-2 c =
     let then = c .before .before .before .before .before .before in
     let on-arrival = c .before .before .before .before .before .on-arrival in
     let if1 = then .if1 in
-    let back = then in
-    let begun = back .before .before .before in
+    let begun = then .before .before .before in
     let a = begun .args in
     line-laid (a .query) (a .line) (a .listed) (a .lines .now) (a .room .now) (if1 .left) (on-arrival .ensures) (c .before .before .lay .ensures)
 
