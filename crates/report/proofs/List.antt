@@ -8,7 +8,8 @@ use lib.ListN.{length, getD, drop, length-append, take-append-drop, length-drop}
 use Rattle.octets.proofs.Room.{laid-fits}
 use Rattle.octets.proofs.Split.{firsts, firsts-drop}
 use Rattle.octets.specs.Room.{laid}
-use Rattle.report.proofs.Puts.{fits-first, laid-then, fits-then}
+use Rattle.octets.proofs.Room.{laid-then}
+use Rattle.report.proofs.Puts.{fits-first, fits-then}
 use Rattle.report.specs.Text.{lineText, listText}
 use Rattle.report.specs.Stages.{Puts, Fits}
 
