@@ -1,9 +1,10 @@
--- No two acknowledgements have one number.
-use Prim.Native.Nat.{ℕ}
+-- An acknowledgement's number is an octet, and no two have one number.
+use Prim.Native.Nat.{ℕ, _<_}
 use mathlib.Core.Bool.{cond}
 use mathlib.Core.Path.{_≡_, refl, sym, ap, _∙_}
+use native.Mathlib.Omega.{arith}
 use lib.Dec.{eqb}
-use Rattle.coupler.specs.Answers.{acknowledgementNumber}
+use Rattle.coupler.specs.Step.{acknowledgementNumber}
 use Rattle.coupler.specs.declared.Acknowledgement.the-variants.{Silence, Acknowledged}
 use Rattle.coupler.specs.declared.Acknowledgement.{Acknowledgement}
 
@@ -17,3 +18,7 @@ acknowledging-back Acknowledged = refl
 
 pub acknowledgement-apart : (a b : Acknowledgement) → acknowledgementNumber a ≡ acknowledgementNumber b → a ≡ b
 acknowledgement-apart a b e = sym (acknowledging-back a) ∙ ap acknowledging e ∙ acknowledging-back b
+
+pub acknowledgement-fits : (a : Acknowledgement) → acknowledgementNumber a < 256
+acknowledgement-fits Silence = omega arith
+acknowledgement-fits Acknowledged = omega arith

@@ -4,4 +4,3 @@ pub mod Step
 pub mod Hearing
 pub mod Series
 pub mod Stages
-pub mod Answers

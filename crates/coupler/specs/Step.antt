@@ -121,6 +121,11 @@ isForwarded k repetition m = isAllowed k m && not repetition
 unfoldable pub acknowledgementBy : Bool → Bool → Bool → Acknowledgement
 acknowledgementBy ip own allowed = cond (not ip && (own || allowed)) Acknowledged Silence
 
+-- as a number: CCh, or 0 for none
+abbrev pub acknowledgementNumber : Acknowledgement → ℕ
+acknowledgementNumber Silence = 0
+acknowledgementNumber Acknowledged = 0xCC
+
 abbrev pub acknowledgementOf : Coupler → Meaning → Acknowledgement
 acknowledgementOf k m = acknowledgementBy (fromIp k) (isForItself k m) (isAllowed k m)
 

@@ -5,24 +5,21 @@ use mathlib.Core.List.{List, [], _∷_}
 use mathlib.Core.Path.{_≡_, refl, sym, ap, _∙_}
 use native.Mathlib.Omega.{arith}
 use lib.ListN.{length}
-use Rattle.coupler.proofs.Apart.{frame-nothing, nothing-one}
+use Rattle.coupler.proofs.Answers.{acknowledgement-fits}
+use Rattle.coupler.proofs.Refusals.{number-iff, zero-iff}
 use Rattle.coupler.proofs.StepLaws.{heard-valid}
-use Rattle.coupler.specs.Answers.{acknowledgementNumber}
 use Rattle.coupler.specs.Memory.{recalled, sideOf}
-use Rattle.coupler.specs.Step.{Coupler, Heard, frame, nothing, heard, toIp, isForwarded, repeats, forwardedMeaning, indication, formOf, outcomeOf, outcomeBy, refusedOutcome}
-use Rattle.coupler.specs.declared.Acknowledgement.{Acknowledgement}
-use Rattle.coupler.specs.declared.Acknowledgement.the-variants.{Silence, Acknowledged}
+use Rattle.coupler.specs.Step.{Coupler, Heard, frame, nothing, heard, toIp, isForwarded, repeats, forwardedMeaning, indication, formOf, acknowledgementNumber, outcomeOf, outcomeBy}
 use Rattle.coupler.specs.declared.Outcome.{Outcome}
 use Rattle.coupler.specs.declared.Setting.{Setting}
 use Rattle.frame.proofs.Numbers.{number-listed}
 use Rattle.frame.proofs.Valid.{most-payload}
-use Rattle.frame.specs.Refusals.{number, lastNumber}
+use Rattle.frame.specs.Refusals.{lastNumber}
 use Rattle.frame.specs.declared.Meaning.{Meaning}
 use Rattle.frame.specs.declared.Refusal.the-variants.{OutOfRange}
 use Rattle.klumdray.proofs.Bits.{bit-fits, Field, _holding_, packed, Fit, read-back, below}
-use Rattle.klumdray.proofs.Telling.{tells-refused, tells-accepted}
 use Rattle.klumdray.specs.Block.{memoryIn, outcomeNumber, heardThrough, SteppedThrough}
-use Rattle.klumdray.specs.Decoding.{bits, numberIn, outcomeNumbered, outcomeFrom, forwardedIn, Tells}
+use Rattle.klumdray.specs.Decoding.{bits, numberIn, outcomeNumbered, outcomeFrom, forwardedIn, TellsParts}
 use Rattle.octets.specs.Octets.{Octets, weigh}
 use Rattle.routing.proofs.LayoutLaws.{length-routing}
 use Rattle.tp1.proofs.LayoutLaws.{head-most, length-octets}
@@ -35,10 +32,6 @@ outcomeFields o =
     ∷ 15 holding 0
     ∷ 32 holding o .forwarded
     ∷ []
-
-acknowledgement-fits : (a : Acknowledgement) → acknowledgementNumber a < 256
-acknowledgement-fits Silence = omega arith
-acknowledgement-fits Acknowledged = omega arith
 
 module _ (o : Outcome) (n : o .number ≤ lastNumber) (h : o .forwarded ≤ 270) where
   outcome-fit : Fit (outcomeFields o)
@@ -94,14 +87,17 @@ numbered-most k remembered s (frame m p) = omega arith
 numbered-most k remembered s (nothing q) = number-listed q .1
 
 outcome-answer : (k : Coupler) (remembered s : List ℕ) (h : Heard) → outcomeBy k remembered s h .forwarded ≤ 270
-    → Tells 64 outcomeFrom (outcomeNumber (outcomeBy k remembered s h)) (outcomeNumbered (outcomeBy k remembered s h)) (λ r. h ≡ nothing r)
-unfolding outcomeNumber
-outcome-answer k remembered s (frame m p) h =
-    let o : Outcome = outcomeBy k remembered s (frame m p) in
-    tells-accepted (outcome-number o (omega arith) h) (λ r e. frame-nothing (sym e)) (outcome-fits o (omega arith) h) (outcome-decoded o (omega arith) h)
-outcome-answer k remembered s (nothing q) h =
-    let e : outcomeNumber (refusedOutcome k s q) ≡ number q = omega arith in
-    tells-refused q e refl (λ r. nothing-one) (omega arith) (ap outcomeFrom (sym e) ∙ outcome-decoded (refusedOutcome k s q) (number-listed q .1) h)
+    → TellsParts 64 outcomeFrom (outcomeNumber (outcomeBy k remembered s h)) (outcomeNumbered (outcomeBy k remembered s h)) (λ r. h ≡ nothing r)
+outcome-answer k remembered s h most =
+    let o : Outcome = outcomeBy k remembered s h in
+    let listed : o .number ≤ lastNumber = numbered-most k remembered s h in
+    let e : numberIn (outcomeNumber o) ≡ o .number = outcome-number o listed most in
+    record {
+      fits = outcome-fits o listed most;
+      decoded = outcome-decoded o listed most;
+      accepted = rw e (zero-iff k remembered s h);
+      refused = λ r. rw e (number-iff k remembered s h r);
+    }
 
 -- the same through the surface
 module _ {right : Bool} {k : Coupler} {block s room : List ℕ} {answer : ℕ} {block′ room′ : List ℕ} (os : Octets s) (w : SteppedThrough right k block s room answer block′ room′) where
@@ -116,7 +112,7 @@ module _ {right : Bool} {k : Coupler} {block s room : List ℕ} {answer : ℕ} {
       go true = at-most-270 k remembered s (length room) os
       go false = omega arith
 
-  pub step-told : Tells 64 outcomeFrom answer (outcomeNumbered (outcomeBy k (recalled (sideOf (memoryIn block) (k .setting .side))) s (heardThrough right k s (length room)))) (λ r. heardThrough right k s (length room) ≡ nothing r)
+  pub step-told : TellsParts 64 outcomeFrom answer (outcomeNumbered (outcomeBy k (recalled (sideOf (memoryIn block) (k .setting .side))) s (heardThrough right k s (length room)))) (λ r. heardThrough right k s (length room) ≡ nothing r)
   unfolding remembered
   step-told = rw (w .answered) (outcome-answer k remembered s (heardThrough right k s (length room)) through-most)
 

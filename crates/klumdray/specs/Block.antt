@@ -11,13 +11,12 @@ use Rattle.octets.specs.Octets.{octetAt, weigh}
 use Rattle.octets.specs.Word.{high, low, wordAt}
 use Rattle.octets.specs.Room.{over}
 use Rattle.frame.specs.declared.Refusal.the-variants.{OutOfRange}
-use Rattle.coupler.specs.Answers.{acknowledgementNumber}
 use Rattle.coupler.specs.declared.Outcome.{Outcome}
 use Rattle.coupler.specs.declared.Remembered.{Remembered}
 use Rattle.coupler.specs.declared.Memory.{Memory}
 use Rattle.coupler.specs.Memory.{recalled, sideOf}
 use Rattle.coupler.specs.Setting.{settingOf}
-use Rattle.coupler.specs.Step.{Coupler, couplerBy, Heard, nothing, heard, outcomeBy, sentBy, memoryAfter}
+use Rattle.coupler.specs.Step.{Coupler, couplerBy, Heard, nothing, heard, outcomeBy, sentBy, memoryAfter, acknowledgementNumber}
 use Rattle.coupler.specs.declared.Setting.{Setting}
 
 -- the frame that one side's 265 octets hold

@@ -7,7 +7,7 @@ use mathlib.Core.Logic.{_↔_}
 use mathlib.Core.Path.{_≡_}
 use lib.Dec.{ltb, eqb}
 use lib.ListN.{length, take, drop, getD}
-use Rattle.coupler.specs.Answers.{acknowledgementNumber}
+use Rattle.coupler.specs.Step.{acknowledgementNumber}
 use Rattle.coupler.specs.declared.Outcome.{Outcome}
 use Rattle.frame.specs.Answers.{Numbered}
 use Rattle.frame.specs.Refusals.{number}
@@ -123,7 +123,7 @@ writtenFrom n = numberedBy n (writtenIn n ∷ [])
 abbrev pub explanationFrom : ℕ → Numbered
 explanationFrom n = numberedBy n (cond (eqb (reasonIn n) 0) [] (reasonIn n ∷ stoppingLineIn n ∷ stoppingSideIn n ∷ []))
 
--- "The step's result: number, acknowledgement or none, for itself or not, octets forwarded (0 if none). On a refusal: its number, none, not, 0."
+-- "The step's result: number, acknowledgement or none, for itself or not, octets forwarded (0 if none)."
 abbrev pub outcomeNumbered : Outcome → Numbered
 outcomeNumbered o = record { number = o .number; values = acknowledgementNumber (o .acknowledgement) ∷ weigh (o .own) 1 ∷ o .forwarded ∷ [] }
 
@@ -137,7 +137,14 @@ tracedNumbered t = record { number = t .number; values = t .lines ∷ t .forward
 abbrev pub tracedFrom : ℕ → Numbered
 tracedFrom n = record { number = numberIn n; values = linesIn n ∷ forwardingsIn n ∷ [] }
 
--- what an answer says
+-- what a step's answer says, "whatever the number is": its parts are the inner call's, and its number is that of the refusal given
+pub record TellsParts (width : ℕ) (from : ℕ → Numbered) (answer : ℕ) (inner : Numbered) (Refused : Refusal → Type 0) : Type 0 where
+  pub fits : answer < 2 ^ width
+  pub decoded : from answer ≡ inner
+  pub accepted : numberIn answer ≡ 0 ↔ ((r : Refusal) → Refused r → ⊥)
+  pub refused : (r : Refusal) → numberIn answer ≡ number r ↔ Refused r
+
+-- what any other answer says
 pub record Tells (width : ℕ) (from : ℕ → Numbered) (answer : ℕ) (inner : Numbered) (Refused : Refusal → Type 0) : Type 0 where
   -- it has no bit above its width
   pub fits : answer < 2 ^ width

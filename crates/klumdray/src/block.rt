@@ -2,7 +2,7 @@
 ghost use mathlib.Core.Path.{_≡_};
 ghost use Prim.Native.Nat.{_≤_};
 ghost use mathlib.Core.Bool.{cond};
-ghost use Rattle.coupler.specs.Answers.{acknowledgementNumber};
+ghost use Rattle.coupler.specs.Step.{acknowledgementNumber};
 ghost use Rattle.klumdray.specs.Block.{settingIn, codesIn, outcomeNumber};
 ghost use Rattle.klumdray.specs.Stages.{startOf, keptIn, rememberedAt};
 use coupler::Acknowledgement;

@@ -15,11 +15,10 @@ use Rattle.coupler.proofs.Apart.{frame-nothing}
 use Rattle.coupler.proofs.Promised.{Forwardable, forwardable-iff, forwarded-iff, acknowledged-iff, remembers-main, remembers-sub}
 use Rattle.coupler.proofs.Refusals.{number-iff}
 use Rattle.coupler.proofs.StepLaws.{forwarded-ranged, heard-size}
-use Rattle.coupler.specs.Answers.{acknowledgementNumber}
 use Rattle.coupler.specs.Memory.{recalled, sideOf, rememberedOn}
 use Rattle.octets.proofs.Truth.{never, and-true}
 use Rattle.passing.specs.Passing.{isOwn, mayPass}
-use Rattle.coupler.specs.Step.{Coupler, stepTests, fromIp, toIp, Heard, frame, nothing, heard, isForItself, isAllowed, repeats, isForwarded, acknowledgementBy, forwardedMeaning, indication, formOf, forwardedOctets, outcomeBy, sentBy, memoryAfter, Did}
+use Rattle.coupler.specs.Step.{Coupler, stepTests, fromIp, toIp, Heard, frame, nothing, heard, isForItself, isAllowed, repeats, isForwarded, acknowledgementBy, forwardedMeaning, indication, formOf, forwardedOctets, refusedOutcome, outcomeBy, sentBy, memoryAfter, Did, acknowledgementNumber}
 use Rattle.coupler.specs.declared.Acknowledgement.the-variants.{Silence, Acknowledged}
 use Rattle.coupler.specs.declared.Memory.{Memory}
 use Rattle.coupler.specs.declared.Outcome.{Outcome}
@@ -30,6 +29,7 @@ use Rattle.frame.specs.Refusals.{number}
 use Rattle.frame.specs.Valid.{Valid}
 use Rattle.frame.specs.declared.Meaning.{Meaning}
 use Rattle.frame.specs.declared.Refusal.{Refusal}
+use Rattle.klumdray.specs.Block.{memoryIn, outcomeNumber, heardThrough, SteppedThrough}
 use Rattle.octets.specs.Octets.{Octets}
 use Rattle.octets.specs.Room.{over}
 use Rattle.routing.specs.Layout.{routingOctets}
@@ -335,3 +335,11 @@ pub own-never-passes : (line : ℕ) (codes : List (List ℕ)) (table : List ℕ)
     → isOwn line kind destination ≡ true → mayPass line codes table direction kind destination ≡ false
 unfolding mayPass
 own-never-passes line codes table direction kind destination e = rw e refl
+
+-- through the surface: "each is read from its own bits, of a refused step too. On a refusal they are: its number, none, not, 0."
+pub refused-answer : {right : Bool} {k : Coupler} {block s room : List ℕ} {answer : ℕ} {block′ room′ : List ℕ} → SteppedThrough right k block s room answer block′ room′
+    → (r : Refusal) → heardThrough right k s (length room) ≡ nothing r → answer ≡ number r
+unfolding outcomeNumber
+refused-answer {k = k} {block} {s} w r e =
+    let n : outcomeNumber (refusedOutcome k s r) ≡ number r = omega arith in
+    w .answered ∙ ap (λ (h : Heard). outcomeNumber (outcomeBy k (recalled (sideOf (memoryIn block) (k .setting .side))) s h)) e ∙ n

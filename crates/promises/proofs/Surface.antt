@@ -5,7 +5,7 @@ use Prim.Native.Nat.{ℕ, _+_, _≤_, _<_}
 use mathlib.Core.Bool.{Bool, true, false, cond, _&&_}
 use mathlib.Core.List.{List, [], _∷_}
 use mathlib.Core.Logic.{_↔_}
-use mathlib.Core.Path.{_≡_, _∙_}
+use mathlib.Core.Path.{_≡_, sym, ap, _∙_}
 use native.Mathlib.Omega.{arith}
 use lib.ListN.{length, take, drop}
 use Rattle.cemi.proofs.LayoutLaws.{length-plain}
@@ -38,7 +38,7 @@ use Rattle.klumdray.proofs.Telling.{tells-one}
 use Rattle.klumdray.proofs.TracerNumbers.{trace-told, trace-lines, trace-leaves, why-told, why-reached}
 use Rattle.klumdray.proofs.WriterNumbers.{written-told, written-size, written-leaves, tp1-most, cemi-most, routing-most}
 use Rattle.klumdray.specs.Block.{memoryIn, lentRight, heardThrough, SteppedThrough}
-use Rattle.klumdray.specs.Decoding.{bits, numberIn, writtenIn, payloadLengthIn, forwardedIn, linesIn, forwardingsIn, tp1From, cemiFrom, writtenFrom, explanationFrom, outcomeNumbered, outcomeFrom, tracedNumbered, tracedFrom, Tells, TellsReading, tp1PayloadStart, cemiInformationStart, cemiInformationLength, routingInformationStart, routingInformationLength, LiesAt, MessageParts, rememberedPart, rememberedSize, rememberedStart, ListReads}
+use Rattle.klumdray.specs.Decoding.{bits, numberIn, writtenIn, payloadLengthIn, forwardedIn, linesIn, forwardingsIn, tp1From, cemiFrom, writtenFrom, explanationFrom, outcomeNumbered, outcomeFrom, tracedNumbered, tracedFrom, Tells, TellsParts, TellsReading, tp1PayloadStart, cemiInformationStart, cemiInformationLength, routingInformationStart, routingInformationLength, LiesAt, MessageParts, rememberedPart, rememberedSize, rememberedStart, ListReads}
 use Rattle.klumdray.specs.Numbers.{tp1Answered, cemiAnswered, routingAnswered, WroteNumber, WroteTp1, WroteCemi, WroteRouting}
 use Rattle.klumdray.specs.Traces.{explanationNumber, TracedThrough}
 use Rattle.octets.specs.Octets.{Octets}
@@ -127,12 +127,13 @@ routing-write-back flags x p room answer after = writes-back (routing-most flags
 pub at-most-270 : (k : Coupler) (m m′ : Memory) (s room room′ : List ℕ) (outcome : Outcome) → Octets s → Did k m s room outcome m′ room′ → outcome .forwarded ≤ 270
 at-most-270 k m m′ s room room′ outcome o d = rw (d .handed .outcome) (forwarded-most k (recalled (sideOf m (k .setting .side))) s (length room) o)
 
--- .. and through the surface. "A step's answer. With a refusal every bit above 7 is 0."
+-- .. and through the surface. "A step's answer has four parts and says all four whatever the number is: each is read from its own bits, of a
+-- refused step too."
 module _ (settings : List ℕ) (k : Coupler) (block s room : List ℕ) (answer : ℕ) (block′ room′ : List ℕ) (o : Octets s) (w : SteppedThrough (lentRight settings block) k block s room answer block′ room′) where
   abbrev hears : Heard
   hears = heardThrough (lentRight settings block) k s (length room)
 
-  pub step-back : Tells 64 outcomeFrom answer (outcomeNumbered (outcomeBy k (recalled (sideOf (memoryIn block) (k .setting .side))) s hears)) (λ r. hears ≡ nothing r)
+  pub step-back : TellsParts 64 outcomeFrom answer (outcomeNumbered (outcomeBy k (recalled (sideOf (memoryIn block) (k .setting .side))) s hears)) (λ r. hears ≡ nothing r)
   step-back = step-told o w
 
   -- "bits 17 to 31  0"
@@ -195,3 +196,6 @@ module _ (st : Stores) (site : List ℕ) (q : Query) (line : ℕ) (h : q .start 
 -- two different answers never give the same number
 pub answers-apart : {v w : ℕ} {from : ℕ → Numbered} {a b : ℕ} {i j : Numbered} {P Q : Refusal → Type 0} → Tells v from a i P → Tells w from b j Q → a ≡ b → i ≡ j
 answers-apart = tells-one
+
+pub step-answers-apart : {v w : ℕ} {from : ℕ → Numbered} {a b : ℕ} {i j : Numbered} {P Q : Refusal → Type 0} → TellsParts v from a i P → TellsParts w from b j Q → a ≡ b → i ≡ j
+step-answers-apart {from = from} x y e = sym (x .decoded) ∙ ap from e ∙ y .decoded

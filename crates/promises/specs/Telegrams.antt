@@ -6,11 +6,10 @@ use mathlib.Core.Path.{_≡_}
 use lib.ListN.{length}
 use Rattle.passing.specs.Passing.{tableOctet, tableBit}
 use Rattle.coupler.specs.Setting.{settingOf}
-use Rattle.coupler.specs.Step.{Coupler, couplerBy, outcomeOf, sent}
+use Rattle.coupler.specs.Step.{Coupler, couplerBy, outcomeOf, sent, acknowledgementNumber}
 use Rattle.frame.specs.Order.{firstOf}
 use Rattle.frame.specs.declared.Verdict.{Verdict}
 use Rattle.frame.specs.Answers.{Numbered, accepted, meaningValues}
-use Rattle.coupler.specs.Answers.{acknowledgementNumber}
 use Rattle.site.specs.Stores.{stores}
 use Rattle.tp1.specs.Answers.{tp1Numbered}
 use Rattle.tp1.specs.Reading.{payloadIn, readTp1}
