@@ -16,7 +16,7 @@ use Rattle.coupler.specs.declared.Memory.{Memory}
 use Rattle.coupler.specs.declared.Outcome.{Outcome}
 use Rattle.frame.proofs.Numbers.{refused-number}
 use Rattle.frame.specs.declared.Meaning.{Meaning}
-use Rattle.klumdray.specs.Block.{rememberedIn, memoryIn, halfOf, blockOf, outcomeNumber, heardThrough, SteppedThrough}
+use Rattle.klumdray.specs.Block.{rememberedIn, memoryIn, halfOf, blockOf, outcomeNumber, areSettings, lentRight, heardThrough, SteppedThrough}
 use Rattle.klumdray.specs.Stages.{startOf, keptIn, rememberedAt}
 use Rattle.octets.proofs.Octets.{octets-take, octets-drop}
 use Rattle.octets.proofs.Room.{laid-front, laid-left, laid-right}
@@ -154,8 +154,8 @@ memory-block k remembered block s (frame m p) n o size = go (fromIp k) refl
     go false e = rw e (remembered-block block s (k .setting .side) n (size m p refl e) o)
 memory-block k remembered block s (nothing r) n o size = rw (refused-number r) (unchanged-block block n o)
 
-pub right-block : (a b : ℕ) → eqb a 10 && eqb b 530 ≡ true → b ≡ 530
-right-block a b e = eqb-true b 530 (and-true (eqb a 10) (eqb b 530) e .1)
+pub right-block : (settings block : List ℕ) → lentRight settings block ≡ true → length block ≡ 530
+right-block settings block e = eqb-true (length block) 530 (and-true (areSettings settings) (eqb (length block) 530) e .1)
 
 -- handing on with the frame that a side's half holds, and putting the frame there by the outcome's number, is the step inside
 pub stepped : (k : Coupler) (block s : List ℕ) {room room′ block′ : List ℕ} {o : Outcome} {start n answer : ℕ} → length block ≡ 530 → Octets block → Octets s

@@ -49,9 +49,13 @@ couplerSet settings side table = couplerBy (settingIn settings side) (codesIn se
 unfoldable pub outcomeNumber : Outcome → ℕ
 outcomeNumber o = o .number + acknowledgementNumber (o .acknowledgement) * 2 ^ 8 + weigh (o .own) 1 * 2 ^ 16 + o .forwarded % 65536 * 2 ^ 32
 
+-- a block of settings by its size
+abbrev pub areSettings : List ℕ → Bool
+areSettings settings = eqb (length settings) 10
+
 -- settings or a memory of another size are refused by 14, before any other refusal (docs/DECISIONS.md)
 abbrev pub lentRight : List ℕ → List ℕ → Bool
-lentRight settings block = eqb (length settings) 10 && eqb (length block) 530
+lentRight settings block = areSettings settings && eqb (length block) 530
 
 unfoldable pub heardThrough : Bool → Coupler → List ℕ → ℕ → Heard
 heardThrough right k s room = cond right (heard k s room) (nothing OutOfRange)

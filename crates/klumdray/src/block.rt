@@ -9,6 +9,8 @@ use coupler::Acknowledgement;
 use coupler::Outcome;
 use coupler::Setting;
 
+pub(crate) const SETTINGS_SIZE: usize = 10;
+
 pub(crate) fn setting_in(settings: &[u8], side: u8) -> Setting
     ensures { λ r. ⌜ r ≡ settingIn (now (settings .entry)) side ⌝ }
 {

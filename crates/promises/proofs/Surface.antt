@@ -144,7 +144,7 @@ module _ (settings : List ℕ) (k : Coupler) (block s room : List ℕ) (answer :
   step-at-most-270 = step-most o w
 
   lent : lentRight settings block ≡ true → length block ≡ 530
-  lent = right-block (length settings) (length block)
+  lent = right-block settings block
 
   -- "After a TP1 frame that is not refused, the receiving side's size is the frame's and its octets are the frame; those behind the frame and
   -- the other side's stay."

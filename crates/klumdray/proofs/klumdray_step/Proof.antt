@@ -17,7 +17,7 @@ part-hand-on-end c =
     let back = then in
     let begun = back .before .before .before .before .before .before in
     let a = begun .args in
-    omega (arith, start-of .ensures .1, c .before .kept-in .ensures .1, right-block (length (a .settings .now)) (length (a .memory .now)) (if1 .taken))
+    omega (arith, start-of .ensures .1, c .before .kept-in .ensures .1, right-block (a .settings .now) (a .memory .now) (if1 .taken))
 
 returns : tie.Need-returns
 returns c =
@@ -36,7 +36,7 @@ returns c =
     let begun = furthest .before .before .before .before .before .before in
     let a = begun .args in
     let k = couplerSet (a .settings .now) (a .side) (a .table .now) in
-    let size = right-block (length (a .settings .now)) (length (a .memory .now)) (if1 .taken) in
+    let size = right-block (a .settings .now) (a .memory .now) (if1 .taken) in
     let from = start-of .result + 2 in
     let held : from + kept-in .result - from ≡ kept-in .result = omega arith in
     let handed = rw (setting-in .ensures, codes-in .ensures, held) at (hand-on .ensures) in
