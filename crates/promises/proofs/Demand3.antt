@@ -6,11 +6,10 @@ use mathlib.Core.Bool.{true, false}
 use mathlib.Core.List.{List, [], _∷_, _++_}
 use mathlib.Core.Logic.{_↔_, _⊎_, inr, Iff·symm, Iff·trans}
 use mathlib.Core.Path.{_≡_, refl, sym, ap, _∙_}
-use native.Mathlib.Nat.{sub-zero}
 use native.Mathlib.Omega.{arith}
-use lib.Dec.{eqb, leb}
+use lib.Dec.{leb}
 use lib.ListN.{length, take, drop}
-use borrow.Author.Tests.{leb-true, eqb-true, le-ltb}
+use borrow.Author.Tests.{leb-true, le-ltb}
 use Rattle.octets.proofs.Truth.{by-cases, and-true}
 use Rattle.passing.specs.Answers.{passageNumber}
 use Rattle.passing.specs.Passing.{doesPass}
@@ -30,6 +29,7 @@ use Rattle.site.specs.Records.{recordsOf}
 use Rattle.site.specs.Stores.{Stores}
 use Rattle.site.specs.WellFormed.{isAmong, siteTests}
 use Rattle.tracer.proofs.Explained.{reached-iff, not-reached, StopsBehind, stopOf, stops-once}
+use Rattle.tracer.proofs.CountLaws.{arrival-none}
 use Rattle.tracer.proofs.ListLaws.{trace-three-each, trace-less-one}
 use Rattle.tracer.proofs.Paths.{path-same, distance-four}
 use Rattle.tracer.proofs.RoomList.{Rising, octetsOf, rising-one, listed-at, listed-iff, lasts-iff, linesOn, lines-octets, lines-count, lines-rise, lines-are}
@@ -74,8 +74,7 @@ pub record Signed (st : Stores) (site : List ℕ) (q : Query) (room : List ℕ) 
   pub forwarded : answer .forwardings ≡ answer .lines - 1
 
 start-octets : (q : Query) → lineOctets q (q .start) ≡ q .start ∷ q .count ∷ 0 ∷ []
-unfolding onArrival
-start-octets q = rw path-same (by-cases (eqb (q .count) 7) (λ e. rw (e, eqb-true (q .count) 7 e) refl) (λ e. rw (e, sub-zero) refl))
+start-octets q = rw (path-same, arrival-none q) refl
 
 start-reachable : (st : Stores) (site : List ℕ) (q : Query) → Reachable st site q (q .start)
 start-reachable st site q = rw path-same (refl, inr (omega arith))
@@ -208,11 +207,14 @@ stopped-there st site q w a line n =
 -- nothing is left out here either
 pub stops-one : {st : Stores} {site : List ℕ} {q : Query} {line : ℕ} {a b : Numbered} → Stops st site q line a → Stops st site q line b → a ≡ b
 stops-one {st} {site} {q} s t =
-    let x = stops-once st site q 0 (s .ahead) (s .behind) (t .ahead) (t .behind) (s .here) (t .here) (sym (s .place) ∙ t .place) (behind s) (behind t) in
+    let x = stops-once st site q 0 (s .ahead) (s .behind) (t .ahead) (t .behind) (s .here) (t .here) (few s) (sym (s .place) ∙ t .place) (behind s) (behind t) in
     s .told ∙ ap (λ (y : Crossing). values y (length (s .ahead))) (x .0) ∙ ap (values (t .here)) (x .1) ∙ sym (t .told)
   where
     values : Crossing → ℕ → Numbered
     values y n = accepted (passageNumber (reasonOf st site q y (onArrival q n)) ∷ y .line ∷ y .direction ∷ [])
+
+    few : {line : ℕ} {n : Numbered} (s : Stops st site q line n) → 0 + length (s .ahead ++ (s .here ∷ s .behind)) ≤ 4
+    few {line} s = omega (arith, at-most-four (q .start) line, ap length (s .place))
 
     behind : {line : ℕ} {n : Numbered} (s : Stops st site q line n) → StopsBehind st site q 0 (s .ahead) (s .here)
     behind s =

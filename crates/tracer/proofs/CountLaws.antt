@@ -20,10 +20,10 @@ pub lasts-less : (c d k : ℕ) → lasts c d ≡ false → lasts c (d + k) ≡ f
 unfolding lasts
 lasts-less c d k = by-cases (eqb c 7) (λ e. rw e (λ h. h)) (λ e. rw e (λ h. lt-leb (d + k) c (omega (arith, leb-false d c h))))
 
--- "7, or c minus d": what is left is not used up exactly if the count lasts for one coupler more
-pub left-lasts : (q : Query) (d : ℕ) → lasts (q .count) d ≡ true → not (eqb (onArrival q d) 0) ≡ lasts (q .count) (suc d)
+-- "7, or c minus d": what is left on a path, which has at most four couplers, is not used up exactly if the count lasts for one coupler more
+pub left-lasts : (q : Query) (d : ℕ) → d ≤ 4 → lasts (q .count) d ≡ true → not (eqb (onArrival q d) 0) ≡ lasts (q .count) (suc d)
 unfolding lasts onArrival
-left-lasts q d e =
+left-lasts q d few e =
     let c : ℕ = q .count in
     by-cases (eqb c 7)
     (λ s. rw s refl)
@@ -33,10 +33,10 @@ left-lasts q d e =
     (λ l. rw (s, l, ne-eqb (c - d) 0 (λ z. omega (arith, leb-true (suc d) c l))) refl)
     (λ l. rw (s, l, eq-eqb (c - d) 0 (omega (arith, leb-false (suc d) c l))) refl))
 
-pub lasts-more : (q : Query) (d : ℕ) → lasts (q .count) (suc d) ≡ lasts (q .count) d && not (eqb (onArrival q d) 0)
-lasts-more q d =
+pub lasts-more : (q : Query) (d : ℕ) → d ≤ 4 → lasts (q .count) (suc d) ≡ lasts (q .count) d && not (eqb (onArrival q d) 0)
+lasts-more q d few =
     by-cases (lasts (q .count) d)
-    (λ e. rw e (sym (left-lasts q d e)))
+    (λ e. rw e (sym (left-lasts q d few e)))
     (λ e. rw e (ap (lasts (q .count)) (sym (add-one d)) ∙ lasts-less (q .count) d 1 e))
 
 -- nothing crossed, nothing taken away

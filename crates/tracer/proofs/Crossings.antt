@@ -11,7 +11,7 @@ use borrow.Author.Tests.{not-false}
 use Rattle.octets.proofs.Truth.{by-cases, never, and-yes, and-false}
 use Rattle.site.specs.WellFormed.{isAmong}
 use Rattle.tracer.proofs.CountLaws.{lasts-more}
-use Rattle.tracer.proofs.Paths.{on-zero, path-down, path-up, above-of, over-own, over-main}
+use Rattle.tracer.proofs.Paths.{on-zero, path-down, path-up, above-of, over-own, over-main, distance-four}
 use Rattle.tracer.specs.Lines.{mainSides, Crossing, up, down, crossing, fromLine, toLine, cameOver, path, distance}
 use Rattle.tracer.specs.Query.{onArrival}
 use Rattle.tracer.specs.Listing.{allPass, lasts, isListed, isForwarding}
@@ -59,7 +59,7 @@ pub listed-more : (f : Crossing → Bool) (q : Query) (t u : ℕ) (x : Crossing)
 unfolding isListed
 listed-more f q t u x e =
     let s : ℕ = q .start in
-    rw (distance-more s t u x e, e, all-append f (path s u) (x ∷ []), and-yes (f x), lasts-more q (distance s u))
+    rw (distance-more s t u x e, e, all-append f (path s u) (x ∷ []), and-yes (f x), lasts-more q (distance s u) (distance-four s u))
     (sorted (allPass f (path s u)) (f x) (lasts (q .count) (distance s u)) (not (eqb (onArrival q (distance s u)) 0)))
   where
     sorted : (a b c d : Bool) → a && b && (c && d) ≡ a && c && b && d

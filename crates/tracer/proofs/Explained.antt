@@ -8,7 +8,7 @@ use mathlib.Core.Logic.{_↔_, inl, inr, ⊎-elim}
 use mathlib.Core.Path.{_≡_, refl, sym, ap, _∙_}
 use native.Mathlib.Omega.{arith}
 use lib.Dec.{ltb, eqb}
-use lib.ListN.{length, getD, drop}
+use lib.ListN.{length, length-append, getD, drop}
 use borrow.Author.Tests.{lt-ltb}
 use Rattle.octets.proofs.Truth.{by-cases, never, and-true}
 use Rattle.passing.specs.Passing.{doesPass}
@@ -18,9 +18,10 @@ use Rattle.site.specs.Letting.{passageAt}
 use Rattle.site.specs.Records.{recordsOf}
 use Rattle.site.specs.Stores.{Stores}
 use Rattle.tracer.proofs.CountLaws.{lasts-none, left-lasts, arrival-none, hopped-more}
+use Rattle.tracer.proofs.Paths.{distance-four}
 use Rattle.tracer.proofs.ReachingLaws.{along-zero, reach-reached}
 use Rattle.tracer.proofs.RoomList.{lasts-iff}
-use Rattle.tracer.specs.Lines.{Crossing, path}
+use Rattle.tracer.specs.Lines.{Crossing, path, distance}
 use Rattle.tracer.specs.Query.{onArrival}
 use Rattle.tracer.specs.Listing.{crossingPasses, allPass, lasts, isListed}
 use Rattle.tracer.specs.declared.Query.{Query}
@@ -34,6 +35,10 @@ use Rattle.tracer.specs.declared.Walk.{Walk}
 abbrev pub isGoing : Walk → Bool
 isGoing (Going count) = true
 isGoing (Stopped stop) = false
+
+path-four : (s t : ℕ) → 0 + length (path s t) ≤ 4
+unfolding distance
+path-four s t = omega (arith, distance-four s t)
 
 lasts-fewer : (c d n : ℕ) → d ≤ n → lasts c n ≡ true → lasts c d ≡ true
 lasts-fewer c d n h e = lasts-iff c d .1 (⊎-elim (λ s. inl s) (λ l. inr (omega (arith, l))) (lasts-iff c n .0 e))
@@ -56,21 +61,21 @@ module _ (st : Stores) (site : List ℕ) (q : Query) where
   abbrev passage : Crossing → ℕ → Passage
   passage x count = passageAt st (q .kind) (q .destination) (recordsOf site) (x .direction) (x .line) count
 
-  -- after d couplers, with the count that is left
-  going : (m : q .count ≤ 7) (d : ℕ) (xs : List Crossing) → lasts (q .count) d ≡ true
+  -- after d couplers, with the count that is left, on a path of at most four
+  going : (m : q .count ≤ 7) (d : ℕ) (xs : List Crossing) → d + length xs ≤ 4 → lasts (q .count) d ≡ true
       → isGoing (walk (Going (onArrival q d)) xs) ≡ ltb 0 (along (crossingPasses st site q) (q .count) (suc d) xs)
   unfolding handed
-  going m d [] e = sym (lt-ltb 0 (suc d) (omega arith))
-  going m d (x ∷ xs) e =
+  going m d [] few e = sym (lt-ltb 0 (suc d) (omega arith))
+  going m d (x ∷ xs) few e =
       let p = passage x (onArrival q d) in
       let f = crossingPasses st site q x in
       let k : doesPass p ≡ f && lasts (q .count) (suc d) =
       passage-lets st (q .kind) (q .destination) (recordsOf site) (x .direction) (x .line) (onArrival q d)
-      ∙ ap (λ (b : Bool). f && b) (left-lasts q d e) in
+      ∙ ap (λ (b : Bool). f && b) (left-lasts q d (omega arith) e) in
       by-cases (f && lasts (q .count) (suc d))
       (λ t.
       let l : lasts (q .count) (suc d) ≡ true = and-true f (lasts (q .count) (suc d)) t .1 in
-      rw (k, lt-ltb 0 (suc d) (omega arith), t, hopped-more q d m) (going m (suc d) xs l))
+      rw (k, lt-ltb 0 (suc d) (omega arith), t, hopped-more q d m) (going m (suc d) xs (omega arith) l))
       (λ n.
       rw (k, lt-ltb 0 (suc d) (omega arith), n)
       (ap isGoing (stopped-stays st site q (record { coupler = x .line; direction = x .direction; reason = p }) xs)
@@ -80,7 +85,7 @@ module _ (st : Stores) (site : List ℕ) (q : Query) where
   unfolding reach
   going-listed m line =
       ap (λ (c : ℕ). isGoing (walk (Going c) (path (q .start) line))) (sym (arrival-none q))
-      ∙ going m 0 (path (q .start) line) (lasts-none (q .count))
+      ∙ going m 0 (path (q .start) line) (path-four (q .start) line) (lasts-none (q .count))
       ∙ reach-reached (crossingPasses st site q) (q .start) (q .count) line
 
   reached-going : (w : Walk) → whyBy w ≡ Reached → isGoing w ≡ true
@@ -117,15 +122,15 @@ module _ (st : Stores) (site : List ℕ) (q : Query) where
     pub stops : StopsBehind crossed ahead here
     pub told : stop ≡ stopOf here (crossed + length ahead)
 
-  stopped-at : (m : q .count ≤ 7) (d : ℕ) (xs : List Crossing) (stop : Stop) → lasts (q .count) d ≡ true → walk (Going (onArrival q d)) xs ≡ Stopped stop → StoppedAt d xs stop
-  stopped-at m d [] stop h e = let z : _≡_ {A = ℕ} 0 1 = cc in absurd (omega arith)
-  stopped-at m d (x ∷ xs) stop h e =
+  stopped-at : (m : q .count ≤ 7) (d : ℕ) (xs : List Crossing) (stop : Stop) → d + length xs ≤ 4 → lasts (q .count) d ≡ true → walk (Going (onArrival q d)) xs ≡ Stopped stop → StoppedAt d xs stop
+  stopped-at m d [] stop few h e = let z : _≡_ {A = ℕ} 0 1 = cc in absurd (omega arith)
+  stopped-at m d (x ∷ xs) stop few h e =
       let k = onArrival q d in
       by-cases (doesPass (passage x k))
       (λ t.
       let a = and-true (crossingPasses st site q x) (not (eqb k 0)) (sym (passage-lets st (q .kind) (q .destination) (recordsOf site) (x .direction) (x .line) k) ∙ t) in
-      let l : lasts (q .count) (suc d) ≡ true = sym (left-lasts q d h) ∙ a .1 in
-      let s = stopped-at m (suc d) xs stop l (ap (λ (c : ℕ). walk (Going c) xs) (sym (hopped-more q d m)) ∙ (rw t at e)) in
+      let l : lasts (q .count) (suc d) ≡ true = sym (left-lasts q d (omega arith) h) ∙ a .1 in
+      let s = stopped-at m (suc d) xs stop (omega arith) l (ap (λ (c : ℕ). walk (Going c) xs) (sym (hopped-more q d m)) ∙ (rw t at e)) in
       let j : suc d + length (s .ahead) ≡ d + suc (length (s .ahead)) = omega arith in
       record {
         ahead = x ∷ s .ahead;
@@ -157,14 +162,14 @@ module _ (st : Stores) (site : List ℕ) (q : Query) where
   unfolding whyOf
   not-reached m line e =
       let w = stop-of (walk (Going (q .count)) (path (q .start) line)) (going-listed m line ∙ e) in
-      (w .0, (ap whyBy (w .1), stopped-at m 0 (path (q .start) line) (w .0) (lasts-none (q .count)) (ap (λ (c : ℕ). walk (Going c) (path (q .start) line)) (arrival-none q) ∙ w .1)))
+      (w .0, (ap whyBy (w .1), stopped-at m 0 (path (q .start) line) (w .0) (path-four (q .start) line) (lasts-none (q .count)) (ap (λ (c : ℕ). walk (Going c) (path (q .start) line)) (arrival-none q) ∙ w .1)))
 
   -- a coupler that lets the telegram pass hands it on if the count lasts for one more
-  hands-on : (x : Crossing) (d n : ℕ) → crossingPasses st site q x ≡ true → d < n → lasts (q .count) n ≡ true → doesPass (passage x (onArrival q d)) ≡ true
-  hands-on x d n f h e =
+  hands-on : (x : Crossing) (d n : ℕ) → crossingPasses st site q x ≡ true → d < n → n ≤ 4 → lasts (q .count) n ≡ true → doesPass (passage x (onArrival q d)) ≡ true
+  hands-on x d n f h few e =
       let more : lasts (q .count) (suc d) ≡ true = lasts-fewer (q .count) (suc d) n h e in
       passage-lets st (q .kind) (q .destination) (recordsOf site) (x .direction) (x .line) (onArrival q d)
-      ∙ rw (f, left-lasts q d (lasts-fewer (q .count) d n (omega (arith, h)) e)) more
+      ∙ rw (f, left-lasts q d (omega (arith, h)) (lasts-fewer (q .count) d n (omega (arith, h)) e)) more
 
   stops-behind : (d : ℕ) (x y : Crossing) (xs : List Crossing) → StopsBehind d (x ∷ xs) y → (crossingPasses st site q x ≡ true) × StopsBehind (suc d) xs y
   stops-behind d x y xs s =
@@ -172,14 +177,14 @@ module _ (st : Stores) (site : List ℕ) (q : Query) where
       let j : d + suc (length xs) ≡ suc d + length xs = omega arith in
       (p .0, (p .1, (rw j at (s .1 .0), rw j at (s .1 .1))))
 
-  none-behind : (d : ℕ) (x y : Crossing) (xs : List Crossing) → StopsBehind d [] x → StopsBehind d (x ∷ xs) y → ⊥
-  none-behind d x y xs s s′ = never (sym (hands-on x (d + 0) (d + suc (length xs)) (stops-behind d x y xs s′ .0) (omega arith) (s′ .1 .0)) ∙ s .1 .1)
+  none-behind : (d : ℕ) (x y : Crossing) (xs : List Crossing) → d + suc (length xs) ≤ 4 → StopsBehind d [] x → StopsBehind d (x ∷ xs) y → ⊥
+  none-behind d x y xs few s s′ = never (sym (hands-on x (d + 0) (d + suc (length xs)) (stops-behind d x y xs s′ .0) (omega arith) few (s′ .1 .0)) ∙ s .1 .1)
 
-  -- such a coupler is one on a path
-  pub stops-once : (d : ℕ) (xs us ys vs : List Crossing) (x y : Crossing) → xs ++ (x ∷ us) ≡ ys ++ (y ∷ vs) → StopsBehind d xs x → StopsBehind d ys y → (x ≡ y) × (length xs ≡ length ys)
-  stops-once d [] us [] vs x y e s s′ = (first-same e, refl)
-  stops-once d [] us (z ∷ ys) vs x y e s s′ = absurd (none-behind d x y ys s (rw (← first-same e) at s′))
-  stops-once d (z ∷ xs) us [] vs x y e s s′ = absurd (none-behind d y x xs s′ (rw (first-same e) at s))
-  stops-once d (w ∷ xs) us (z ∷ ys) vs x y e s s′ =
-      let r = stops-once (suc d) xs us ys vs x y (rest-same e) (stops-behind d w x xs s .1) (stops-behind d z y ys s′ .1) in
+  -- such a coupler is one on a path of at most four
+  pub stops-once : (d : ℕ) (xs us ys vs : List Crossing) (x y : Crossing) → d + length (xs ++ (x ∷ us)) ≤ 4 → xs ++ (x ∷ us) ≡ ys ++ (y ∷ vs) → StopsBehind d xs x → StopsBehind d ys y → (x ≡ y) × (length xs ≡ length ys)
+  stops-once d [] us [] vs x y few e s s′ = (first-same e, refl)
+  stops-once d [] us (z ∷ ys) vs x y few e s s′ = absurd (none-behind d x y ys (omega (arith, few, ap length e, length-append ys (y ∷ vs))) s (rw (← first-same e) at s′))
+  stops-once d (z ∷ xs) us [] vs x y few e s s′ = absurd (none-behind d y x xs (omega (arith, few, length-append xs (x ∷ us))) s′ (rw (first-same e) at s))
+  stops-once d (w ∷ xs) us (z ∷ ys) vs x y few e s s′ =
+      let r = stops-once (suc d) xs us ys vs x y (omega (arith, few)) (rest-same e) (stops-behind d w x xs s .1) (stops-behind d z y ys s′ .1) in
       (r .0, ap suc (r .1))
