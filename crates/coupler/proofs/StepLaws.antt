@@ -14,7 +14,7 @@ use Rattle.cemi.specs.declared.Message.{Message}
 use Rattle.coupler.proofs.Apart.{frame-nothing}
 use Rattle.coupler.specs.Memory.{kept, recalled, sideOf, rememberedOn}
 use Rattle.coupler.specs.Stages.{rememberedIf}
-use Rattle.coupler.specs.Setting.{hoppedBy}
+use Rattle.coupler.specs.Setting.{staysBy, hoppedBy}
 use Rattle.coupler.specs.Step.{Coupler, settingTests, fromIp, Heard, heardTp1, heardIp, readBy, after, heard, repeats, forwardedMeaning, indication, formOf, sentOf, acceptedOutcome, refusedOutcome, outcomeBy, sentBy, HandedOn, memoryAfter, Did, frame, nothing}
 use Rattle.coupler.specs.Stages.{putSize, Sent, PassedOn, HandedBy}
 use Rattle.coupler.specs.declared.Memory.{Memory}
@@ -51,11 +51,11 @@ use Rattle.cemi.specs.declared.CemiAnswer.the-variants.{Frame as Message-is, Re
 use Rattle.cemi.proofs.RoundTrip.{read-laid as cemi-read-laid}
 
 hopped-below : (k : Setting) (c : ℕ) → c < 8 → hoppedBy k c < 8
-hopped-below k c h = go (eqb c 7) refl
+hopped-below k c h = either (staysBy k c)
   where
-    go : (b : Bool) → eqb c 7 ≡ b → cond b 7 (c - 1) < 8
-    go true e = omega arith
-    go false e = omega arith
+    either : (b : Bool) → cond b 7 (c - 1) < 8
+    either true = omega arith
+    either false = omega arith
 
 -- a forwarded frame keeps what the ranges ask
 pub forwarded-ranged : (k : Setting) (m : Meaning) (n : ℕ) → inRange m n ≡ true → inRange (forwardedMeaning k m) n ≡ true
