@@ -36,16 +36,18 @@ use Rattle.tracer.specs.Query.{onArrival, hoppedIn}
 use Rattle.tracer.specs.declared.Query.{Query}
 use Rattle.tracer.specs.Listing.{crossingPasses, isListed, isForwarding, forwardings}
 
--- the one place where a coupler's hop rule meets that of the list: whatever its setting is, it forwards a first sending with the count by
--- which the query goes on
-forwarded-with : (k : Setting) (q : Query) (m : Meaning) (count : ℕ) → m .first ≡ true → forwardedMeaning k (withCount count m) ≡ withCount (hoppedIn q count) m
-forwarded-with k q m count e =
+-- the one place where a coupler's hop rule meets that of the list: each coupler of a site at work forwards a first sending with the count by
+-- which the query about it goes on
+forwarded-with : (w : AtWork) (x : Crossing) (start : ℕ) (m : Meaning) (count : ℕ) → m .first ≡ true
+    → forwardedMeaning (couplerAt w x .setting) (withCount count m) ≡ withCount (hoppedIn (askedOf w start m) count) m
+forwarded-with w x start m count e =
     let f : true ≡ m .first = sym e in
-    λ i. record { extended = m .extended; first = f i; priority = m .priority; source = m .source; group = m .group; destination = m .destination; count = hoppedIn q count }
+    let n : ℕ = hoppedIn (askedOf w start m) count in
+    λ i. record { extended = m .extended; first = f i; priority = m .priority; source = m .source; group = m .group; destination = m .destination; count = n }
 
 module _ (w : AtWork) (ok : firstOf (siteTests (w .stores) (w .site)) ≡ Fine) (start : ℕ) (m : Meaning) (p : List ℕ) (v : Valid m p) (new : m .first ≡ true) where
   abbrev asked : Query
-  asked = askedOf start m
+  asked = askedOf w start m
 
   -- the count of the first sending after the couplers of the path to a line, itself as it is then, and its form there
 
@@ -100,7 +102,7 @@ module _ (w : AtWork) (ok : firstOf (siteTests (w .stores) (w .site)) ≡ Fine) 
     onward-is =
         let hops : hoppedIn asked (countOn before) ≡ countOn (toLine x) =
         hopped-more asked (distance start before) (omega (arith, counted)) ∙ ap (onArrival asked) (sym (distance-more start (toLine x) before x e)) in
-        ap (λ (y : Meaning). formOn w (toLine x) y p) (forwarded-with setting asked m (countOn before) new ∙ ap (λ (k : ℕ). withCount k m) hops)
+        ap (λ (y : Meaning). formOn w (toLine x) y p) (forwarded-with w x start m (countOn before) new ∙ ap (λ (k : ℕ). withCount k m) hops)
 
     more : lists (toLine x) ≡ lists before && passes x && not (eqb (countOn before) 0)
     more = listed-more passes asked (toLine x) before x e

@@ -104,6 +104,10 @@ pub record ArrivesWith (w : AtWork) (start : ℕ) (m : Meaning) (p : List ℕ) (
   pub reads : readBy (isIp w line) octets ≡ frame (withCount count m) p
   pub crosses : length way ≡ crossed
 
--- the query about a telegram of this meaning, put on the starting line
-abbrev pub askedOf : ℕ → Meaning → Query
-askedOf start m = queryOf start (kindOf m) (m .destination) (m .count)
+-- a site at work, its couplers set as a query has it
+abbrev pub setFor : Query → AtWork → AtWork
+setFor q w = w
+
+-- the query about a telegram of this meaning, put on the starting line of a site at work
+abbrev pub askedOf : AtWork → ℕ → Meaning → Query
+askedOf w start m = queryOf start (kindOf m) (m .destination) (m .count)

@@ -25,7 +25,7 @@ use Rattle.journey.proofs.Journey.{list-is-journey, arrives-listed, arrives-bel
 use Rattle.tracer.proofs.ListLaws.{trace-and-one}
 use Rattle.journey.proofs.SoMany.{so-many-one}
 use Rattle.tracer.proofs.Standing.{ListedWith, stands-iff, stands-once}
-use Rattle.journey.specs.Journey.{AtWork, isIp, formOn, Arrives, Sends, SoMany, ArrivesWith, withCount, askedOf}
+use Rattle.journey.specs.Journey.{AtWork, isIp, formOn, Arrives, Sends, SoMany, ArrivesWith, withCount, setFor, askedOf}
 use Rattle.tracer.specs.Lines.{Crossing, path, distance}
 use Rattle.tracer.specs.Query.{isQuery, onArrival}
 use Rattle.tracer.specs.Listing.{StandsIn, listed, linesListed, forwardings}
@@ -38,35 +38,35 @@ pub backbone-on-ip : (w : AtWork) → NoneOf (siteTests (w .stores) (w .site)) �
 backbone-on-ip w ok = backbone-ip w (passed-iff (siteTests (w .stores) (w .site)) .1 ok)
 
 module _ (w : AtWork) (o : Octets (w .site)) (ok : NoneOf (siteTests (w .stores) (w .site))) (start : ℕ) (small : start < 256) (m : Meaning) (p : List ℕ) (v : Valid m p) (new : m .first ≡ true)
-    (room room′ : List ℕ) (answer : Traced) (large : 768 ≤ length room) (d : DidTrace (w .stores) (w .site) (askedOf start m) room answer room′) where
+    (room room′ : List ℕ) (answer : Traced) (large : 768 ≤ length room) (d : DidTrace (w .stores) (w .site) (askedOf w start m) room answer room′) where
   fine : firstOf (siteTests (w .stores) (w .site)) ≡ Fine
   fine = passed-iff (siteTests (w .stores) (w .site)) .1 ok
 
-  asks : isQuery (askedOf start m) ≡ true
+  asks : isQuery (askedOf w start m) ≡ true
   asks = rw (le-leb (m .count) 7 (omega (arith, ranges-of m (length p) (v .ranges) .count))) (kind (m .group))
     where
       kind : (b : Bool) → leb (weigh b 1) 1 && true ≡ true
       kind true = refl
       kind false = refl
 
-  passed : firstOf (traceTests (w .stores) (w .site) (askedOf start m) (length room)) ≡ Fine
-  passed = passed-iff (traceTests (w .stores) (w .site) (askedOf start m) (length room)) .1 (rw asks refl, (le-ltb (length room) 768 large, ok))
+  passed : firstOf (traceTests (w .stores) (w .site) (askedOf w start m) (length room)) ≡ Fine
+  passed = passed-iff (traceTests (w .stores) (w .site) (askedOf w start m) (length room)) .1 (rw asks refl, (le-ltb (length room) 768 large, ok))
 
-  answered : answer ≡ tracedBy (w .stores) (w .site) (askedOf start m) Fine
-  answered = d .answered ∙ ap (tracedBy (w .stores) (w .site) (askedOf start m)) passed
+  answered : answer ≡ tracedBy (w .stores) (w .site) (askedOf w start m) Fine
+  answered = d .answered ∙ ap (tracedBy (w .stores) (w .site) (askedOf w start m)) passed
 
-  lines-are : answer .lines ≡ linesListed (w .stores) (w .site) (askedOf start m)
+  lines-are : answer .lines ≡ linesListed (w .stores) (w .site) (askedOf w start m)
   lines-are = ap (λ (t : Traced). t .lines) answered
 
-  forwardings-are : answer .forwardings ≡ forwardings (w .stores) (w .site) (askedOf start m)
+  forwardings-are : answer .forwardings ≡ forwardings (w .stores) (w .site) (askedOf w start m)
   forwardings-are = ap (λ (t : Traced). t .forwardings) answered
 
-  room-is : room′ ≡ over (listed (w .stores) (w .site) (askedOf start m)) room
-  room-is = d .left ∙ ap (λ (x : Verdict). over (listBy (w .stores) (w .site) (askedOf start m) x) room) passed
+  room-is : room′ ≡ over (listed (w .stores) (w .site) (askedOf w start m)) room
+  room-is = d .left ∙ ap (λ (x : Verdict). over (listBy (w .stores) (w .site) (askedOf w start m) x) room) passed
 
   -- what stands in the room is what is listed
-  in-room : (line count crossed : ℕ) → StandsIn room′ (answer .lines) line count crossed ↔ ((line < 256) × ListedWith (w .stores) (w .site) (askedOf start m) line count crossed)
-  in-room line count crossed = rw (room-is, lines-are) (stands-iff (w .stores) (w .site) (askedOf start m) room line count crossed)
+  in-room : (line count crossed : ℕ) → StandsIn room′ (answer .lines) line count crossed ↔ ((line < 256) × ListedWith (w .stores) (w .site) (askedOf w start m) line count crossed)
+  in-room line count crossed = rw (room-is, lines-are) (stands-iff (w .stores) (w .site) (askedOf w start m) room line count crossed)
 
   -- line, count on arrival and couplers crossed stand in the room exactly if the telegram, handed on by the step of coupler after coupler and
   -- never back over the one by which it came, arrives on that line with that count, so many couplers having been crossed
@@ -89,14 +89,14 @@ module _ (w : AtWork) (o : Octets (w .site)) (ok : NoneOf (siteTests (w .stores)
   nothing-else line octets way a =
       let l = arrives-listed w fine start m p v new a in
       let b = arrives-below w fine start m p v new o small a in
-      let c : ℕ = onArrival (askedOf start m) (distance start line) in
+      let c : ℕ = onArrival (askedOf w start m) (distance start line) in
       record { below = b; count = c; stands = in-room line c (length way) .1 (b, l .0); laid = l .1 .0; along = l .1 .1 }
 
   -- each line once: it stands in one place, and on it the telegram arrives once, the same octets over the same couplers
 
   pub stands-in-one-place : (line : ℕ) {count₁ count₂ crossed₁ crossed₂ : ℕ} (a : StandsIn room′ (answer .lines) line count₁ crossed₁) (b : StandsIn room′ (answer .lines) line count₂ crossed₂)
       → a .place ≡ b .place
-  stands-in-one-place line = rw (room-is, lines-are) (stands-once (w .stores) (w .site) (askedOf start m) room line)
+  stands-in-one-place line = rw (room-is, lines-are) (stands-once (w .stores) (w .site) (askedOf w start m) room line)
 
   pub arrives-once : (line : ℕ) {octets₁ octets₂ : List ℕ} {way₁ way₂ : List Crossing} → Arrives w start (formOn w start m p) line octets₁ way₁ → Arrives w start (formOn w start m p) line octets₂ way₂
       → (octets₁ ≡ octets₂) × (way₁ ≡ way₂)
@@ -117,15 +117,15 @@ module _ (w : AtWork) (o : Octets (w .site)) (ok : NoneOf (siteTests (w .stores)
 
   -- .. "which is the number of listed lines less one"
   pub forwardings-less-one : answer .lines ≡ suc (answer .forwardings)
-  forwardings-less-one = lines-are ∙ trace-and-one (w .stores) (w .site) (askedOf start m) small ∙ ap suc (sym forwardings-are)
+  forwardings-less-one = lines-are ∙ trace-and-one (w .stores) (w .site) (askedOf w start m) small ∙ ap suc (sym forwardings-are)
 
--- every query with kind and count in range is asked of such a telegram
+-- every query with kind and count in range is asked of such a telegram, on every site at work that is set for it
 pub record Telegram (q : Query) : Type 0 where
   pub meaning : Meaning
   pub payload : List ℕ
   pub valid : Valid meaning payload
   pub new : meaning .first ≡ true
-  pub asked : askedOf (q .start) meaning ≡ q
+  pub asked : (w : AtWork) → askedOf (setFor q w) (q .start) meaning ≡ q
 
 pub every-query : (q : Query) → isQuery q ≡ true → q .destination < 65536 → Telegram q
 every-query q e h =
@@ -138,7 +138,7 @@ every-query q e h =
       payload = 0 ∷ [];
       valid = record { ranges = ranged m 1 r; source = omega arith; destination = h; octets = one-octet };
       new = refl;
-      asked = λ i. record { start = q .start; kind = k i; destination = q .destination; count = q .count };
+      asked = λ w. rw k refl;
     }
   where
     kind : (k : ℕ) → k ≤ 1 → weigh (eqb k 1) 1 ≡ k
