@@ -3,7 +3,7 @@ mod forwarding;
 mod remembering;
 
 ghost use mathlib.Core.Path.{_≡_};
-ghost use Rattle.coupler.specs.Setting.{hoppedBy};
+ghost use Rattle.coupler.specs.Setting.{settingOf, hoppedBy};
 ghost use Rattle.coupler.specs.Memory.{noMemory};
 ghost use Rattle.coupler.specs.Step.{couplerBy, HandedOn, Did};
 use frame::Verdict;
@@ -43,6 +43,12 @@ pub struct Memory {
 pub struct Stepped {
     pub outcome: Outcome,
     pub memory: Memory,
+}
+
+pub fn setting_of(line: u8, side: u8, medium: u8) -> Setting
+    ensures { λ r. ⌜ r ≡ settingOf line side medium ⌝ }
+{
+    Setting { line, side, medium }
 }
 
 // The count with which this coupler forwards a frame.

@@ -14,7 +14,6 @@ ghost use Rattle.klumdray.specs.Block.{couplerSet, lentRight, SteppedThr
 ghost use Rattle.klumdray.specs.Numbers.{tp1Answered, cemiAnswered, routingAnswered, areFlags, meaningFrom, messageFrom, WroteTp1, WroteCemi, WroteRouting};
 ghost use Rattle.klumdray.specs.Traces.{explanationNumber, TracedThrough};
 use cemi::Codes;
-use tracer::Query;
 
 #[no_mangle]
 pub extern "C" fn klumdray_check_octet(octets: &[u8]) -> u8
@@ -192,12 +191,7 @@ pub extern "C" fn klumdray_trace<'a>(
 ) -> u64
     ensures { λ r. ⌜ TracedThrough (stores (now (project .entry)) (now (own .entry))) (now (site .entry)) (queryOf start kind destination count) (now (room .entry)) r (now (room .exit)) ⌝ }
 {
-    let query = Query {
-        start,
-        kind,
-        destination,
-        count,
-    };
+    let query = tracer::query_of(start, kind, destination, count);
     let traced = tracer::trace(query, site, project, own, room);
     traces::of_traced(traced)
 }
@@ -215,12 +209,7 @@ pub extern "C" fn klumdray_why<'a>(
 ) -> u32
     ensures { λ r. ⌜ r ≡ explanationNumber (answerWhy (stores (now (project .entry)) (now (own .entry))) (now (site .entry)) (queryOf start kind destination count) line) ⌝ }
 {
-    let query = Query {
-        start,
-        kind,
-        destination,
-        count,
-    };
+    let query = tracer::query_of(start, kind, destination, count);
     let explanation = tracer::why(query, site, project, own, line);
     traces::of_explanation(explanation)
 }

@@ -82,6 +82,8 @@ use Rattle.passing.proofs.hopped_count.Kinds as passing-hopped-count-kinds
 use Rattle.passing.proofs.hopped_count.Reads as passing-hopped-count-reads
 use Rattle.coupler.proofs.hand_on.Kinds as coupler-hand-on-kinds
 use Rattle.coupler.proofs.hand_on.Reads as coupler-hand-on-reads
+use Rattle.coupler.proofs.setting_of.Kinds as coupler-setting-of-kinds
+use Rattle.coupler.proofs.setting_of.Reads as coupler-setting-of-reads
 use Rattle.coupler.proofs.nothing_remembered.Kinds as coupler-nothing-remembered-kinds
 use Rattle.coupler.proofs.nothing_remembered.Reads as coupler-nothing-remembered-reads
 use Rattle.coupler.proofs.step.Kinds as coupler-step-kinds
@@ -112,6 +114,8 @@ use Rattle.site.proofs.letting.Kinds as site-letting-kinds
 use Rattle.site.proofs.letting.Reads as site-letting-reads
 use Rattle.site.proofs.why_not.Kinds as site-why-not-kinds
 use Rattle.site.proofs.why_not.Reads as site-why-not-reads
+use Rattle.tracer.proofs.query_of.Kinds as tracer-query-of-kinds
+use Rattle.tracer.proofs.query_of.Reads as tracer-query-of-reads
 use Rattle.tracer.proofs.main_side.Kinds as tracer-main-side-kinds
 use Rattle.tracer.proofs.main_side.Reads as tracer-main-side-reads
 use Rattle.tracer.proofs.trace.Kinds as tracer-trace-kinds
@@ -252,6 +256,9 @@ passing-is-own-stated = record { determines = λ κs args r₁ r₂ w₁ w₂ x 
 pub coupler-hand-on-stated : Stated coupler-hand-on-kinds.ps coupler-hand-on-kinds.r coupler-hand-on-reads.Pre coupler-hand-on-reads.Post (λ κs a. coupler-hand-on-reads.ensures κs a tt)
 coupler-hand-on-stated = record { determines = λ κs args r₁ r₂ w₁ w₂ x y. let e = handed-one x y in (e .0, λ i. (tt, (tt, (tt, (tt, (tt, (e .1 i, tt))))))); free = λ κs args. tt; whole = λ κs args r e w. refl }
 
+pub coupler-setting-of-stated : Stated coupler-setting-of-kinds.ps coupler-setting-of-kinds.r coupler-setting-of-reads.Pre coupler-setting-of-reads.Post (λ κs a. coupler-setting-of-reads.ensures κs a tt)
+coupler-setting-of-stated = record { determines = λ κs args r₁ r₂ w₁ w₂ x y. (x ∙ sym y, refl); free = λ κs args. tt; whole = λ κs args r e w. refl }
+
 pub coupler-nothing-remembered-stated : Stated coupler-nothing-remembered-kinds.ps coupler-nothing-remembered-kinds.r coupler-nothing-remembered-reads.Pre coupler-nothing-remembered-reads.Post (λ κs a. coupler-nothing-remembered-reads.ensures κs a tt)
 coupler-nothing-remembered-stated = record { determines = λ κs args r₁ r₂ w₁ w₂ x y. (x ∙ sym y, refl); free = λ κs args. tt; whole = λ κs args r e w. refl }
 
@@ -273,6 +280,9 @@ pub site-why-not-stated : Stated site-why-not-kinds.ps site-why-not-kinds.r site
 site-why-not-stated = record { determines = λ κs args r₁ r₂ w₁ w₂ x y. (x ∙ sym y, refl); free = λ κs args. tt; whole = λ κs args r e w. refl }
 
 -- tracer
+
+pub tracer-query-of-stated : Stated tracer-query-of-kinds.ps tracer-query-of-kinds.r tracer-query-of-reads.Pre tracer-query-of-reads.Post (λ κs a. tracer-query-of-reads.ensures κs a tt)
+tracer-query-of-stated = record { determines = λ κs args r₁ r₂ w₁ w₂ x y. (x ∙ sym y, refl); free = λ κs args. tt; whole = λ κs args r e w. refl }
 
 pub tracer-main-side-stated : Stated tracer-main-side-kinds.ps tracer-main-side-kinds.r tracer-main-side-reads.Pre tracer-main-side-reads.Post (λ κs a. tracer-main-side-reads.ensures κs a tt)
 tracer-main-side-stated = record { determines = λ κs args r₁ r₂ w₁ w₂ x y. (x ∙ sym y, refl); free = λ κs args. tt; whole = λ κs args r e w. refl }

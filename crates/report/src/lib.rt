@@ -34,12 +34,11 @@ fn put_listed(list: &[u8], forwardings: usize, room: &mut [u8]) -> usize
 fn query_in(input: &[u8]) -> Query
     ensures { λ r. ⌜ r ≡ queryIn (now (input .entry)) ⌝ }
 {
-    Query {
-        start: octets::octet(input, 0),
-        kind: octets::octet(input, 1),
-        destination: octets::word_at(input, 2),
-        count: octets::octet(input, 4),
-    }
+    let start = octets::octet(input, 0);
+    let kind = octets::octet(input, 1);
+    let destination = octets::word_at(input, 2);
+    let count = octets::octet(input, 4);
+    tracer::query_of(start, kind, destination, count)
 }
 
 // "then records to the end, with empty stores"

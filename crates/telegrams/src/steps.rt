@@ -4,7 +4,6 @@ use crate::text;
 use coupler::Acknowledgement;
 use coupler::Memory;
 use coupler::Outcome;
-use coupler::Setting;
 
 fn codes_of(setting: &[u8]) -> [[u8; 4]; 2] {
     let down = [
@@ -75,11 +74,10 @@ fn run_frame(
     last: bool,
 ) -> Memory {
     let codes = codes_of(given_setting);
-    let setting = Setting {
-        line: octets::octet(given_setting, 0),
-        side: octets::octet(given_setting, 9),
-        medium: octets::octet(given_setting, 10),
-    };
+    let line = octets::octet(given_setting, 0);
+    let side = octets::octet(given_setting, 9);
+    let medium = octets::octet(given_setting, 10);
+    let setting = coupler::setting_of(line, side, medium);
     let mut room = [0u8; 272];
     let stepped = coupler::step(memory, setting, codes, table, given, &mut room);
     if last {

@@ -11,7 +11,7 @@ ghost use Rattle.frame.specs.Order.{firstOf};
 ghost use Rattle.site.specs.Starts.{Noted};
 ghost use Rattle.site.specs.Stores.{stores};
 ghost use Rattle.tracer.specs.Lines.{mainSide};
-ghost use Rattle.tracer.specs.Query.{hoppedIn, onArrival};
+ghost use Rattle.tracer.specs.Query.{queryOf, hoppedIn, onArrival};
 ghost use Rattle.tracer.specs.Tracing.{askingTests, refusedTrace, DidTrace};
 ghost use Rattle.tracer.specs.Reaching.{DidList};
 ghost use Rattle.tracer.specs.Why.{whyOf, answerWhy};
@@ -57,6 +57,17 @@ pub enum Explanation {
     Reached,
     NotReached(Stop),
     Refused(Refusal),
+}
+
+pub fn query_of(start: u8, kind: u8, destination: u16, count: u8) -> Query
+    ensures { λ r. ⌜ r ≡ queryOf start kind destination count ⌝ }
+{
+    Query {
+        start,
+        kind,
+        destination,
+        count,
+    }
 }
 
 // "Its main side is n with the low four bits cleared if those are not zero, else 00h."

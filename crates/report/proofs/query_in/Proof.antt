@@ -5,7 +5,9 @@ use Rattle.report.proofs.query_in.Tie as tie
 
 returns : tie.Need-returns
 returns c =
-    rw (c .before .before .before .octet .ensures, c .before .before .octet2 .ensures, c .before .word-at .ensures, c .octet3 .ensures)
+    let octet = c .before .before .before .before .octet in
+    rw (← octet .ensures, ← c .before .before .before .octet2 .ensures, ← c .before .before .word-at .ensures, ← c .before .octet3 .ensures) (c .query-of .ensures)
 
 pub query-in-spec : {M : Type 1} → statement M
-query-in-spec = tie.close (tie.spec (λ c κs. search needs) (λ c κs. search needs) (λ c κs. search needs) (λ c κs. search needs) returns)
+query-in-spec = tie.close (tie.spec (λ c κs. search needs) (λ c κs. search needs) (λ c κs. search needs) (λ c κs. search needs)
+    (λ c κs. search needs) returns)
