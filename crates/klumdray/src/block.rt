@@ -3,13 +3,18 @@ ghost use mathlib.Core.Path.{_≡_};
 ghost use Prim.Native.Nat.{_≤_};
 ghost use mathlib.Core.Bool.{cond};
 ghost use Rattle.coupler.specs.Step.{acknowledgementNumber};
-ghost use Rattle.klumdray.specs.Block.{settingIn, codesIn, outcomeNumber};
+ghost use Rattle.klumdray.specs.Block.{areSettings, settingIn, codesIn, outcomeNumber};
 ghost use Rattle.klumdray.specs.Stages.{startOf, keptIn, rememberedAt};
 use coupler::Acknowledgement;
 use coupler::Outcome;
 use coupler::Setting;
 
-pub(crate) const SETTINGS_SIZE: usize = 10;
+// A block of settings by its size.
+pub(crate) fn are_settings(settings: &[u8]) -> bool
+    ensures { λ r. ⌜ r ≡ areSettings (now (settings .entry)) ⌝ }
+{
+    settings.len() == 10
+}
 
 pub(crate) fn setting_in(settings: &[u8], side: u8) -> Setting
     ensures { λ r. ⌜ r ≡ settingIn (now (settings .entry)) side ⌝ }

@@ -161,7 +161,7 @@ pub extern "C" fn klumdray_step(
 ) -> u64
     ensures { λ r. ⌜ SteppedThrough (lentRight (now (settings .entry)) (now (memory .entry))) (couplerSet (now (settings .entry)) side (now (table .entry))) (now (memory .entry)) (now (octets .entry)) (now (room .entry)) r (now (memory .exit)) (now (room .exit)) ⌝ }
 {
-    let right = (settings.len() == block::SETTINGS_SIZE) & (memory.len() == 530);
+    let right = block::are_settings(settings) & (memory.len() == 530);
     if right {
         let setting = block::setting_in(settings, side);
         let codes = block::codes_in(settings);

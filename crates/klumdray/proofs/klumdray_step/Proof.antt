@@ -13,10 +13,10 @@ part-hand-on-end c =
     let then = c .before .before .before .before .before .before in
     let start-of = c .before .before .before .start-of in
     let if1 = then .if1 in
-    let back = then in
-    let begun = back .before .before .before .before .before .before in
+    let are-settings = then .before .are-settings in
+    let begun = then .before .before .before .before .before .before .before in
     let a = begun .args in
-    omega (arith, start-of .ensures .1, c .before .kept-in .ensures .1, right-block (a .settings .now) (a .memory .now) (if1 .taken))
+    omega (arith, start-of .ensures .1, c .before .kept-in .ensures .1, right-block (a .settings .now) (a .memory .now) (rw (are-settings .ensures) at (if1 .taken)))
 
 returns : tie.Need-returns
 returns c =
@@ -30,22 +30,24 @@ returns c =
     let setting-in = further .before .before .before .before .before .setting-in in
     let if1 = further .before .before .before .before .before .before .if1 in
     let furthest = further .before .before .before .before .before .before in
-    let heard = furthest .before .before .shared-slice-known3 in
-    let slice-known = furthest .before .before .before .slice-known in
-    let begun = furthest .before .before .before .before .before .before in
+    let are-settings = furthest .before .are-settings in
+    let heard = furthest .before .before .before .shared-slice-known3 in
+    let slice-known = furthest .before .before .before .before .slice-known in
+    let begun = furthest .before .before .before .before .before .before .before in
     let a = begun .args in
     let k = couplerSet (a .settings .now) (a .side) (a .table .now) in
-    let size = right-block (a .settings .now) (a .memory .now) (if1 .taken) in
+    let right = rw (are-settings .ensures) at (if1 .taken) in
+    let size = right-block (a .settings .now) (a .memory .now) right in
     let from = start-of .result + 2 in
     let held : from + kept-in .result - from ≡ kept-in .result = omega arith in
     let handed = rw (setting-in .ensures, codes-in .ensures, held) at (hand-on .ensures) in
     let kept = rw (setting-in .ensures) at (remember-if .ensures) in
-    rw (if1 .taken) (stepped k _ _ size (λ i. slice-known .given i .fits) (λ i. heard .given i .fits) (start-of .ensures .0) (kept-in .ensures .0) handed kept (c .of-outcome .ensures))
+    rw right (stepped k _ _ size (λ i. slice-known .given i .fits) (λ i. heard .given i .fits) (start-of .ensures .0) (kept-in .ensures .0) handed kept (c .of-outcome .ensures))
 
 returns-2 : tie.Need-returns-2
-returns-2 c = rw (c .if1 .left) (stepped-wrong _ _ _ _)
+returns-2 c = rw (rw (c .before .are-settings .ensures) at (c .if1 .left)) (stepped-wrong _ _ _ _)
 
 pub klumdray-step-spec : {M : Type 1} → statement M
-klumdray-step-spec = tie.close (tie.spec (λ c κs. search needs) (λ c κs. search needs) (λ c κs. search needs) (λ c. search needs)
-    (λ c κs. search needs) (λ c. search needs) (λ c. search needs) (λ c. search needs) part-hand-on-end (λ c κs. search needs)
-    (λ c κs. search needs) (λ c κs. search needs) (λ c. search needs) (λ c. search needs) returns returns-2)
+klumdray-step-spec = tie.close (tie.spec (λ c κs. search needs) (λ c κs. search needs) (λ c κs. search needs) (λ c κs. search needs)
+    (λ c. search needs) (λ c κs. search needs) (λ c. search needs) (λ c. search needs) (λ c. search needs) part-hand-on-end
+    (λ c κs. search needs) (λ c κs. search needs) (λ c κs. search needs) (λ c. search needs) (λ c. search needs) returns returns-2)
