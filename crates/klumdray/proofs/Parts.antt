@@ -93,7 +93,7 @@ module _ (codes : Codes) (t : List ℕ) (x : Message) (o : Octets t) (e : readCe
 module _ (s : List ℕ) (o : Octets s) where
   pub cemi-parts : numberIn (cemiAnswered s) ≡ 0
       → MessageParts s (cemiAnswered s) cemiInformationStart (cemiInformationLength (cemiAnswered s) (length s))
-        (informationAt (readCemi All s) s) (informationIn (readCemi All s) s) (cemiPayloadAt (readCemi All s) s) (cemiPayload (readCemi All s) s)
+      (informationAt (readCemi All s) s) (informationIn (readCemi All s) s) (cemiPayloadAt (readCemi All s) s) (cemiPayload (readCemi All s) s)
   cemi-parts z = go (readCemi All s) refl
     where
       go : (c : CemiAnswer) → readCemi All s ≡ c
@@ -119,12 +119,12 @@ module _ (s : List ℕ) (o : Octets s) where
 
   pub routing-parts : numberIn (routingAnswered s) ≡ 0
       → MessageParts s (routingAnswered s) routingInformationStart (routingInformationLength (routingAnswered s) (length s))
-        (routedInformationAt (readRouting s) s) (routedInformation (readRouting s) s) (routedPayloadAt (readRouting s) s) (routedPayload (readRouting s) s)
+      (routedInformationAt (readRouting s) s) (routedInformation (readRouting s) s) (routedPayloadAt (readRouting s) s) (routedPayload (readRouting s) s)
   routing-parts z = go (readRouting s) refl
     where
       go : (c : CemiAnswer) → readRouting s ≡ c
           → MessageParts s (routingAnswered s) routingInformationStart (routingInformationLength (routingAnswered s) (length s))
-            (routedInformationAt c s) (routedInformation c s) (routedPayloadAt c s) (routedPayload c s)
+          (routedInformationAt c s) (routedInformation c s) (routedPayloadAt c s) (routedPayload c s)
       go (Message-is x) e =
           let t : List ℕ = drop 6 s in
           let q : List ℕ = cemiPayload (Message-is x) t in

@@ -62,7 +62,12 @@ pub enum Explanation {
 pub fn query_of(start: u8, kind: u8, destination: u16, count: u8) -> Query
     ensures { λ r. ⌜ r ≡ queryOf start kind destination count ⌝ }
 {
-    Query { start, kind, destination, count }
+    Query {
+        start,
+        kind,
+        destination,
+        count,
+    }
 }
 
 // "Its main side is n with the low four bits cleared if those are not zero, else 00h."

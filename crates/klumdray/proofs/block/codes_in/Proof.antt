@@ -7,8 +7,15 @@ returns : tie.Need-returns
 returns c =
     let down = c .before .before .before .before in
     rw (
-    down .before .before .before .octet .ensures, down .before .before .octet2 .ensures, down .before .octet3 .ensures, down .octet4 .ensures,
-    c .before .before .before .octet5 .ensures, c .before .before .octet6 .ensures, c .before .octet7 .ensures, c .octet8 .ensures)
+      down .before .before .before .octet .ensures,
+      down .before .before .octet2 .ensures,
+      down .before .octet3 .ensures,
+      down .octet4 .ensures,
+      c .before .before .before .octet5 .ensures,
+      c .before .before .octet6 .ensures,
+      c .before .octet7 .ensures,
+      c .octet8 .ensures,
+    )
 
 pub codes-in-spec : {M : Type 1} → statement M
 codes-in-spec = tie.close (tie.spec (λ c κs. search needs) (λ c κs. search needs) (λ c κs. search needs) (λ c κs. search needs)
