@@ -6,13 +6,23 @@
  * answers' bits, of the parts of the caller's octets, of the list in a trace's room and of the frame
  * in a step's memory, as the helpers at its end read them (crates/promises/proofs/Surface.antt).
  *
- * Octets. A slice is a pointer and then a length; a null pointer with length 0 is an empty slice.
- * Otherwise the pointer must have that many octets behind it. All octets stay the caller's: a call
- * reads those lent as const, writes only the room and the memory lent for it, keeps no pointer and
- * no memory of its own between calls. A room or a memory must not overlap anything else lent to
- * the same call. Calls may be made from several threads.
+ * Octets. A slice is a pointer and then a length of 64 bits, on every machine; a null pointer with
+ * length 0 is an empty slice. Otherwise the pointer must have that many octets behind it. All octets
+ * stay the caller's: a call reads those lent as const, writes only the room and the memory lent for
+ * it, keeps no pointer and no memory of its own between calls. Calls may be made from several
+ * threads.
  *
- * Numbers. "10h" is hexadecimal. A field of two octets has the high octet first.
+ * Apart. A room or a memory must not overlap anything else lent to the same call: what the proof
+ * says of a call it says of slices that lie apart. Each call that writes has a checked form, named
+ * by "_checked" behind its name: the same call, which first refuses an overlap by 14.
+ *
+ * Numbers. "10h" is hexadecimal. A field of two octets has the high octet first. A number is given
+ * as 32 bits and answered as 32 or 64: none is cut on its way, and one outside its range is refused.
+ *
+ * Linking. The library has no data that is written, no start-up and no allocation. What it leaves to
+ * the program is the compiler's own: memcpy, memmove and memset by these names or, on Arm, by those
+ * of its run-time ABI (__aeabi_memcpy and its kin), and on Cortex-M0 the multiplication of 64 bits,
+ * __aeabi_lmul. A C library and libgcc have them; docs/BOARDS.md lists them for each target.
  *
  * Refusals. Every answer but that of klumdray_check_octet, which is never refused, carries a
  * number. A refused call has written nothing.
@@ -150,38 +160,41 @@
 #include <stddef.h>
 #include <stdint.h>
 
+/* 0.2.0, of this file and of the library that it is shipped with: two digits for each part. */
+#define KLUMDRAY_VERSION 0x000200
+
 #ifdef __cplusplus
 extern "C" {
 #endif
 
 /* The ones' complement of the exclusive or of all octets given; FFh of none. */
-uint8_t klumdray_check_octet(const uint8_t *octets, size_t n);
+uint32_t klumdray_check_octet(const uint8_t *octets, uint64_t n);
 
 /*
  * Reads a TP1 L_Data frame, standard or extended.
  * Refusals, the first that applies: no octet (1), control octet (2), fewer than 6 (standard) or 7
  * (extended) octets (1), 3, 4, 1, 5, 6.
  */
-uint64_t klumdray_tp1_read(const uint8_t *octets, size_t n);
+uint64_t klumdray_tp1_read(const uint8_t *octets, uint64_t n);
 
 /*
  * Writes a TP1 L_Data frame to the front of the room.
  *   extended 0, 1   first_sending 0, 1   priority 0 to 3   group 0, 1   count 0 to 7
- *   source, destination: any
+ *   source, destination 0000h to FFFFh
  *   payload: TPCI onward, 1 to 16 octets standard, 1 to 255 extended
  * Refusals: a number or the payload's length outside its range (14); then the room below the
  * frame's size (13), which is payload length + 7 standard, + 8 extended.
  */
-uint64_t klumdray_tp1_write(uint8_t extended, uint8_t first_sending, uint8_t priority,
-                            uint16_t source, uint8_t group, uint16_t destination, uint8_t count,
-                            const uint8_t *payload, size_t n, uint8_t *room, size_t m);
+uint64_t klumdray_tp1_write(uint32_t extended, uint32_t first_sending, uint32_t priority,
+                            uint32_t source, uint32_t group, uint32_t destination, uint32_t count,
+                            const uint8_t *payload, uint64_t n, uint8_t *room, uint64_t m);
 
 /*
  * Reads a cEMI L_Data request (11h), confirmation (2Eh) or indication (29h).
  * Refusals, the first that applies: no octet (1), 7, no second octet (1), 8, the message ends
  * before or without LG (1), 3, 4, 9, 1, 5.
  */
-uint64_t klumdray_cemi_read(const uint8_t *octets, size_t n);
+uint64_t klumdray_cemi_read(const uint8_t *octets, uint64_t n);
 
 /*
  * Writes a cEMI L_Data message in the plain form, without additional information, to the front of
@@ -190,17 +203,17 @@ uint64_t klumdray_cemi_read(const uint8_t *octets, size_t n);
  * Refusals: a number or the payload's length outside its range (14); then the room below the
  * message's size (13), which is payload length + 9.
  */
-uint64_t klumdray_cemi_write(uint8_t code, uint8_t error_mark, uint8_t extended,
-                             uint8_t first_sending, uint8_t priority, uint16_t source,
-                             uint8_t group, uint16_t destination, uint8_t count,
-                             const uint8_t *payload, size_t n, uint8_t *room, size_t m);
+uint64_t klumdray_cemi_write(uint32_t code, uint32_t error_mark, uint32_t extended,
+                             uint32_t first_sending, uint32_t priority, uint32_t source,
+                             uint32_t group, uint32_t destination, uint32_t count,
+                             const uint8_t *payload, uint64_t n, uint8_t *room, uint64_t m);
 
 /*
  * Reads a KNXnet/IP ROUTING_INDICATION (0530h) with one cEMI indication.
  * Refusals, the first that applies: fewer than 6 octets (1), 10, 11, 12, then as
  * klumdray_cemi_read, where 7 is any message code but 29h.
  */
-uint64_t klumdray_routing_read(const uint8_t *octets, size_t n);
+uint64_t klumdray_routing_read(const uint8_t *octets, uint64_t n);
 
 /*
  * Writes a routing datagram with a plain indication to the front of the room.
@@ -208,10 +221,10 @@ uint64_t klumdray_routing_read(const uint8_t *octets, size_t n);
  * Refusals: a number or the payload's length outside its range (14); then the room below the
  * datagram's size (13), which is payload length + 15.
  */
-uint64_t klumdray_routing_write(uint8_t code, uint8_t error_mark, uint8_t extended,
-                                uint8_t first_sending, uint8_t priority, uint16_t source,
-                                uint8_t group, uint16_t destination, uint8_t count,
-                                const uint8_t *payload, size_t n, uint8_t *room, size_t m);
+uint64_t klumdray_routing_write(uint32_t code, uint32_t error_mark, uint32_t extended,
+                                uint32_t first_sending, uint32_t priority, uint32_t source,
+                                uint32_t group, uint32_t destination, uint32_t count,
+                                const uint8_t *payload, uint64_t n, uint8_t *room, uint64_t m);
 
 /* The coupler's numbers and sizes; a TP1 frame is at most KLUMDRAY_FRAME_SIZE octets long. */
 enum {
@@ -245,13 +258,17 @@ enum {
  * Refusals, the first that applies: settings not 10 or memory not 530 octets long (14), line or a
  * code (15), the table's length (18), side or medium (14), room (13), then as klumdray_tp1_read or,
  * from IP, klumdray_routing_read. A refused step leaves room and memory as they were.
+ * Room and memory lie apart from each other and from all that is read: never lend the buffer that a
+ * frame was received into as the room. The answer would look right, and on TP1 the frame remembered
+ * would be the one forwarded, on IP the datagram would be corrupt. klumdray_step_checked refuses it.
  * The answer is read by klumdray_number, klumdray_acknowledgement, klumdray_own and
  * klumdray_forwarded, each of them whatever the number is: a caller sends on either side what the
  * answer says, without asking first whether it is a refusal.
  */
-uint64_t klumdray_step(const uint8_t *settings, size_t settings_length, const uint8_t *table,
-                       size_t table_length, uint8_t side, uint8_t *memory, size_t memory_length,
-                       const uint8_t *octets, size_t length, uint8_t *room, size_t room_length);
+uint64_t klumdray_step(const uint8_t *settings, uint64_t settings_length, const uint8_t *table,
+                       uint64_t table_length, uint32_t side, uint8_t *memory,
+                       uint64_t memory_length, const uint8_t *octets, uint64_t length,
+                       uint8_t *room, uint64_t room_length);
 
 /* The tracer's numbers and sizes. */
 enum {
@@ -264,30 +281,119 @@ enum {
 
 /*
  * Lists the lines of a site that a telegram reaches from its starting line, which is always listed.
- *   start: the starting line, any   kind: 0 individual, 1 group
- *   destination: any; group 0000h is broadcast
+ *   start: the starting line, 00h to FFh   kind: 0 individual, 1 group
+ *   destination: 0000h to FFFFh; group 0000h is broadcast
  *   count: on the starting line, 0 to 7
  *   site, project, own: the records, the project store and the site's own store, laid out as above
  *   room: at least 768 octets
- * Refusals, the first that applies: kind or count (14), room (13), a store's size (18), the site's
- * length (16), then record by record: mark (16), line or codes (15), table number (18), the line a
- * second time (17).
+ * Refusals, the first that applies: one of these numbers (14), room (13), a store's size (18), the
+ * site's length (16), then record by record: mark (16), line or codes (15), table number (18), the
+ * line a second time (17).
  */
-uint64_t klumdray_trace(uint8_t start, uint8_t kind, uint16_t destination, uint8_t count,
-                        const uint8_t *site, size_t site_length, const uint8_t *project,
-                        size_t project_length, const uint8_t *own, size_t own_length,
-                        uint8_t *room, size_t room_length);
+uint64_t klumdray_trace(uint32_t start, uint32_t kind, uint32_t destination, uint32_t count,
+                        const uint8_t *site, uint64_t site_length, const uint8_t *project,
+                        uint64_t project_length, const uint8_t *own, uint64_t own_length,
+                        uint8_t *room, uint64_t room_length);
 
 /*
  * Why a telegram does not reach a line: the first coupler on the path from the starting line that
  * does not hand it on, and the first reason in the order of their numbers. A line is reached
  * exactly if klumdray_trace lists it.
- *   line: any   others as for klumdray_trace
- * Refusals: those of klumdray_trace in its order, without 13.
+ *   line: 00h to FFh   others as for klumdray_trace
+ * Refusals: those of klumdray_trace in its order, the line among its numbers, without 13.
  */
-uint32_t klumdray_why(uint8_t start, uint8_t kind, uint16_t destination, uint8_t count,
-                      const uint8_t *site, size_t site_length, const uint8_t *project,
-                      size_t project_length, const uint8_t *own, size_t own_length, uint8_t line);
+uint32_t klumdray_why(uint32_t start, uint32_t kind, uint32_t destination, uint32_t count,
+                      const uint8_t *site, uint64_t site_length, const uint8_t *project,
+                      uint64_t project_length, const uint8_t *own, uint64_t own_length,
+                      uint32_t line);
+
+/*
+ * The checked forms. A room or a memory that overlaps anything else lent is refused by 14, and
+ * nothing is written; otherwise the answer is the call's own.
+ */
+
+/* 1 if two slices have an octet in common, else 0. */
+static inline int klumdray_overlap(const uint8_t *slice, uint64_t n, const uint8_t *other,
+                                   uint64_t m)
+{
+    uintptr_t from = (uintptr_t)slice, other_from = (uintptr_t)other;
+    return from <= other_from ? other_from - from < n && m > 0 : from - other_from < m && n > 0;
+}
+
+/* Written by tools/make-surface from the calls above. */
+
+static inline uint64_t klumdray_tp1_write_checked(uint32_t extended, uint32_t first_sending,
+                                                  uint32_t priority, uint32_t source,
+                                                  uint32_t group, uint32_t destination,
+                                                  uint32_t count, const uint8_t *payload,
+                                                  uint64_t n, uint8_t *room, uint64_t m)
+{
+    if (klumdray_overlap(payload, n, room, m))
+        return 14u;
+    return klumdray_tp1_write(extended, first_sending, priority, source, group, destination, count,
+                              payload, n, room, m);
+}
+
+static inline uint64_t klumdray_cemi_write_checked(uint32_t code, uint32_t error_mark,
+                                                   uint32_t extended, uint32_t first_sending,
+                                                   uint32_t priority, uint32_t source,
+                                                   uint32_t group, uint32_t destination,
+                                                   uint32_t count, const uint8_t *payload,
+                                                   uint64_t n, uint8_t *room, uint64_t m)
+{
+    if (klumdray_overlap(payload, n, room, m))
+        return 14u;
+    return klumdray_cemi_write(code, error_mark, extended, first_sending, priority, source, group,
+                               destination, count, payload, n, room, m);
+}
+
+static inline uint64_t klumdray_routing_write_checked(uint32_t code, uint32_t error_mark,
+                                                      uint32_t extended, uint32_t first_sending,
+                                                      uint32_t priority, uint32_t source,
+                                                      uint32_t group, uint32_t destination,
+                                                      uint32_t count, const uint8_t *payload,
+                                                      uint64_t n, uint8_t *room, uint64_t m)
+{
+    if (klumdray_overlap(payload, n, room, m))
+        return 14u;
+    return klumdray_routing_write(code, error_mark, extended, first_sending, priority, source,
+                                  group, destination, count, payload, n, room, m);
+}
+
+static inline uint64_t klumdray_step_checked(const uint8_t *settings, uint64_t settings_length,
+                                             const uint8_t *table, uint64_t table_length,
+                                             uint32_t side, uint8_t *memory, uint64_t memory_length,
+                                             const uint8_t *octets, uint64_t length, uint8_t *room,
+                                             uint64_t room_length)
+{
+    if (klumdray_overlap(settings, settings_length, memory, memory_length) ||
+        klumdray_overlap(settings, settings_length, room, room_length) ||
+        klumdray_overlap(table, table_length, memory, memory_length) ||
+        klumdray_overlap(table, table_length, room, room_length) ||
+        klumdray_overlap(memory, memory_length, octets, length) ||
+        klumdray_overlap(memory, memory_length, room, room_length) ||
+        klumdray_overlap(octets, length, room, room_length))
+        return 14u;
+    return klumdray_step(settings, settings_length, table, table_length, side, memory,
+                         memory_length, octets, length, room, room_length);
+}
+
+static inline uint64_t klumdray_trace_checked(uint32_t start, uint32_t kind, uint32_t destination,
+                                              uint32_t count, const uint8_t *site,
+                                              uint64_t site_length, const uint8_t *project,
+                                              uint64_t project_length, const uint8_t *own,
+                                              uint64_t own_length, uint8_t *room,
+                                              uint64_t room_length)
+{
+    if (klumdray_overlap(site, site_length, room, room_length) ||
+        klumdray_overlap(project, project_length, room, room_length) ||
+        klumdray_overlap(own, own_length, room, room_length))
+        return 14u;
+    return klumdray_trace(start, kind, destination, count, site, site_length, project,
+                          project_length, own, own_length, room, room_length);
+}
+
+/* The checked forms end here. */
 
 /*
  * The helpers. Of every answer that a call gives they give back just what the call found: no field
@@ -301,7 +407,7 @@ static inline uint8_t klumdray_number(uint64_t answer)
 }
 
 /* What a number says: the words of the table at the head of this file. */
-static inline const char *klumdray_words(uint8_t number)
+static inline const char *klumdray_words(uint32_t number)
 {
     static const char *const words[] = {
         "not a refusal",
@@ -328,9 +434,9 @@ static inline const char *klumdray_words(uint8_t number)
 }
 
 /* A writer's answer: the octets written. */
-static inline uint64_t klumdray_written(uint64_t answer)
+static inline size_t klumdray_written(uint64_t answer)
 {
-    return answer >> 8;
+    return (size_t)(answer >> 8);
 }
 
 /* A reader's answer, field by field. */
@@ -457,20 +563,20 @@ static inline size_t klumdray_forwarded(uint64_t answer)
 }
 
 /* Where a side's part of the memory begins: its size, then its frame. */
-static inline const uint8_t *klumdray_remembered_part(const uint8_t *memory, uint8_t side)
+static inline const uint8_t *klumdray_remembered_part(const uint8_t *memory, uint32_t side)
 {
     return memory + (side == KLUMDRAY_SUB ? KLUMDRAY_MEMORY_SIZE / 2 : 0);
 }
 
 /* The size of the frame remembered of a side, 0 if there is none, and where it begins. */
-static inline size_t klumdray_remembered_size(const uint8_t *memory, uint8_t side)
+static inline size_t klumdray_remembered_size(const uint8_t *memory, uint32_t side)
 {
     const uint8_t *part = klumdray_remembered_part(memory, side);
     size_t size = (size_t)part[0] << 8 | part[1];
     return size > KLUMDRAY_FRAME_SIZE ? 0u : size;
 }
 
-static inline const uint8_t *klumdray_remembered(const uint8_t *memory, uint8_t side)
+static inline const uint8_t *klumdray_remembered(const uint8_t *memory, uint32_t side)
 {
     return klumdray_remembered_part(memory, side) + 2;
 }

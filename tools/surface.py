@@ -1,6 +1,6 @@
 """What the C header, the Rust bindings and the emulated library say alike: the refusals, from the table in
-crates/frame/specs/Refusals.antt, and the calls, as include/klumdray.h declares them. tools/make-surface
-writes it, tools/check-surface compares."""
+crates/frame/specs/Refusals.antt, and the calls, as include/klumdray.h declares them, with the checked form
+of each that writes. tools/make-surface writes it, tools/check-surface compares."""
 
 import re
 import textwrap
@@ -38,13 +38,16 @@ Refusal = namedtuple("Refusal", "number name words")
 # `parameters` are pairs of type and name, and `lines` says how many stand in each of the header's lines.
 Call = namedtuple("Call", "answer name parameters lines")
 
+# The refusal of an overlap: a number given by the caller, here an address, is outside its range.
+OVERLAP = 14
+
 ROW = re.compile(r"^-- (.*)\nnumber (\w+) = (\d+)$", re.M)
 LAST = re.compile(r"^lastNumber = (\d+)$", re.M)
 DECLARED = re.compile(r"^(uint\d+_t) (klumdray_\w+)\(([^()]*)\);$", re.M)
 PARAMETER = re.compile(r"(const uint8_t \*|uint8_t \*|\w+ )(\w+)")
 EXPORTED = re.compile(r'^pub extern "C" fn (klumdray_\w+)(?:<[^>]*>)?\(([^()]*)\) -> (\w+)', re.M)
 
-RUST = {"const uint8_t *": "*const u8", "uint8_t *": "*mut u8", "size_t": "usize"}
+RUST = {"const uint8_t *": "*const u8", "uint8_t *": "*mut u8"}
 RUST |= {f"uint{width}_t": f"u{width}" for width in (8, 16, 32, 64)}
 
 
@@ -70,7 +73,7 @@ def calls():
 
 def exports():
     """The types of each exported call of the crate, as the header has to declare them."""
-    slices = {"&[u8]": ["const uint8_t *", "size_t"], "&mut [u8]": ["uint8_t *", "size_t"]}
+    slices = {"&[u8]": ["const uint8_t *", "uint64_t"], "&mut [u8]": ["uint8_t *", "uint64_t"]}
     numbers = {f"u{width}": [f"uint{width}_t"] for width in (8, 16, 32, 64)}
     found = {}
     for name, inside, answer in EXPORTED.findall(EXPORTS.read_text()):
@@ -132,6 +135,42 @@ def extern():
     return text
 
 
+def overlaps(call):
+    """The pairs of a call's slices that must not overlap: each that is written, with every other one."""
+    slices = [argument for argument in arguments(call) if argument[0] != "NUMBER"]
+    for place, (kind, *slice) in enumerate(slices):
+        for other_kind, *other in slices[place + 1 :]:
+            if "ROOM" in (kind, other_kind):
+                yield slice + other
+
+
+def filled(begin, words, end):
+    """A list of C in lines of at most 100 characters, each below the one before."""
+    lines = [begin]
+    for place, word in enumerate(words):
+        word += end if place == len(words) - 1 else ","
+        if len(lines[-1]) + len(word) + 1 > 100:
+            lines.append(" " * len(begin) + word)
+        else:
+            lines[-1] += word if lines[-1].endswith("(") else " " + word
+    return "\n".join(lines) + "\n"
+
+
+def checked():
+    """For each call that writes, the form that first refuses an overlap."""
+    text = ""
+    for call in calls():
+        pairs = list(overlaps(call))
+        if not pairs:
+            continue
+        parameters = [f"{kind}{'' if kind.endswith('*') else ' '}{name}" for kind, name in call.parameters]
+        tests = " ||\n        ".join(f"klumdray_overlap({', '.join(pair)})" for pair in pairs)
+        text += "\n" + filled(f"static inline {call.answer} {call.name}_checked(", parameters, ")")
+        text += f"{{\n    if ({tests})\n        return {OVERLAP}u;\n"
+        text += filled(f"    return {call.name}(", [name for _, name in call.parameters], ");") + "}\n"
+    return text + "\n"
+
+
 def wrapped(words):
     """Words as a C list in brackets, in lines of at most 100 characters."""
     text = ", ".join(word.replace(" ", "\0") for word in words)
@@ -157,6 +196,7 @@ def emulated():
 PARTS = [
     (HEADER, " * number. A refused call has written nothing.\n *\n", header_table, " *\n"),
     (HEADER, "    static const char *const words[] = {\n", header_words, "    };\n"),
+    (HEADER, "/* Written by tools/make-surface from the calls above. */\n", checked, "/* The checked forms end here. */\n"),
     (CONSTANTS, "impl Refusal {\n", constants, "}\n"),
     (CONSTANTS, "const WORDS: &[&str] = &[\n", rust_words, "];\n"),
     (EXTERN, 'extern "C" {\n', extern, "}\n"),
@@ -173,7 +213,7 @@ def made():
             continue
         text = texts.get(file) or file.read_text()
         head, found, rest = text.partition(before)
-        _, ended, rest = rest.partition("\n" + behind)
+        _, ended, rest = ("\n" + rest).partition("\n" + behind)
         if not found or not ended:
             raise SystemExit(f"{file.relative_to(ROOT)}: no part between `{before.strip()}` and `{behind.strip()}`")
         texts[file] = head + before + part() + behind + rest

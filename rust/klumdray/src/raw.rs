@@ -64,31 +64,33 @@ pub struct Site<'a> {
 // Line by line as the header declares them: tools/make-surface writes them.
 #[rustfmt::skip]
 extern "C" {
-    fn klumdray_check_octet(octets: *const u8, n: usize) -> u8;
-    fn klumdray_tp1_read(octets: *const u8, n: usize) -> u64;
-    fn klumdray_tp1_write(extended: u8, first_sending: u8, priority: u8,
-                          source: u16, group: u8, destination: u16, count: u8,
-                          payload: *const u8, n: usize, room: *mut u8, m: usize) -> u64;
-    fn klumdray_cemi_read(octets: *const u8, n: usize) -> u64;
-    fn klumdray_cemi_write(code: u8, error_mark: u8, extended: u8,
-                           first_sending: u8, priority: u8, source: u16,
-                           group: u8, destination: u16, count: u8,
-                           payload: *const u8, n: usize, room: *mut u8, m: usize) -> u64;
-    fn klumdray_routing_read(octets: *const u8, n: usize) -> u64;
-    fn klumdray_routing_write(code: u8, error_mark: u8, extended: u8,
-                              first_sending: u8, priority: u8, source: u16,
-                              group: u8, destination: u16, count: u8,
-                              payload: *const u8, n: usize, room: *mut u8, m: usize) -> u64;
-    fn klumdray_step(settings: *const u8, settings_length: usize, table: *const u8,
-                     table_length: usize, side: u8, memory: *mut u8, memory_length: usize,
-                     octets: *const u8, length: usize, room: *mut u8, room_length: usize) -> u64;
-    fn klumdray_trace(start: u8, kind: u8, destination: u16, count: u8,
-                      site: *const u8, site_length: usize, project: *const u8,
-                      project_length: usize, own: *const u8, own_length: usize,
-                      room: *mut u8, room_length: usize) -> u64;
-    fn klumdray_why(start: u8, kind: u8, destination: u16, count: u8,
-                    site: *const u8, site_length: usize, project: *const u8,
-                    project_length: usize, own: *const u8, own_length: usize, line: u8) -> u32;
+    fn klumdray_check_octet(octets: *const u8, n: u64) -> u32;
+    fn klumdray_tp1_read(octets: *const u8, n: u64) -> u64;
+    fn klumdray_tp1_write(extended: u32, first_sending: u32, priority: u32,
+                          source: u32, group: u32, destination: u32, count: u32,
+                          payload: *const u8, n: u64, room: *mut u8, m: u64) -> u64;
+    fn klumdray_cemi_read(octets: *const u8, n: u64) -> u64;
+    fn klumdray_cemi_write(code: u32, error_mark: u32, extended: u32,
+                           first_sending: u32, priority: u32, source: u32,
+                           group: u32, destination: u32, count: u32,
+                           payload: *const u8, n: u64, room: *mut u8, m: u64) -> u64;
+    fn klumdray_routing_read(octets: *const u8, n: u64) -> u64;
+    fn klumdray_routing_write(code: u32, error_mark: u32, extended: u32,
+                              first_sending: u32, priority: u32, source: u32,
+                              group: u32, destination: u32, count: u32,
+                              payload: *const u8, n: u64, room: *mut u8, m: u64) -> u64;
+    fn klumdray_step(settings: *const u8, settings_length: u64, table: *const u8,
+                     table_length: u64, side: u32, memory: *mut u8,
+                     memory_length: u64, octets: *const u8, length: u64,
+                     room: *mut u8, room_length: u64) -> u64;
+    fn klumdray_trace(start: u32, kind: u32, destination: u32, count: u32,
+                      site: *const u8, site_length: u64, project: *const u8,
+                      project_length: u64, own: *const u8, own_length: u64,
+                      room: *mut u8, room_length: u64) -> u64;
+    fn klumdray_why(start: u32, kind: u32, destination: u32, count: u32,
+                    site: *const u8, site_length: u64, project: *const u8,
+                    project_length: u64, own: *const u8, own_length: u64,
+                    line: u32) -> u32;
 }
 
 /// Calls a writer of the library; what only messages have comes first.
