@@ -77,7 +77,7 @@ struct given {
     uint8_t *octets;
 };
 
-#define NUMBER(place, name) given[place].number
+#define NUMBER(place, name) (uint32_t)given[place].number
 #define OCTETS(place, name, size) given[place].octets, given[place].number
 #define ROOM(place, name, size) OCTETS(place, name, size)
 #define CALL(answer, name, parameters, arguments) \

@@ -66,7 +66,7 @@ fn step_row(name: &str, coupler: &Coupler<'_>, [side, medium]: [u8; 2], octets: 
     let setting = Setting {
         settings: &[coupler.line, d0, d1, d2, d3, u0, u1, u2, u3, medium],
         table: coupler.table,
-        side,
+        side: side.into(),
     };
     let (mut block, mut memory) = ([0; 530], Memory::default());
     let (mut proved_room, mut reference_room) = ([0; ROOM_SIZE], [0; ROOM_SIZE]);

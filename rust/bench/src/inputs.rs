@@ -20,13 +20,13 @@ pub fn given(extended: u8) -> Given {
 
 pub fn numbers(given: &Given) -> Numbers {
     Numbers {
-        extended: given.extended,
-        first_sending: given.first_sending,
-        priority: given.priority,
-        source: given.source,
-        group: given.group,
-        destination: given.destination,
-        count: given.count,
+        extended: given.extended.into(),
+        first_sending: given.first_sending.into(),
+        priority: given.priority.into(),
+        source: given.source.into(),
+        group: given.group.into(),
+        destination: given.destination.into(),
+        count: given.count.into(),
     }
 }
 

@@ -73,10 +73,10 @@ pub fn rows() {
 
 fn numbers(query: &Query) -> raw::Query {
     raw::Query {
-        start: query.start,
-        kind: query.kind,
-        destination: query.destination,
-        count: query.count,
+        start: query.start.into(),
+        kind: query.kind.into(),
+        destination: query.destination.into(),
+        count: query.count.into(),
     }
 }
 
@@ -112,13 +112,13 @@ fn trace_row(name: &str, query: &Query, site: &Site<'_>, listed: usize) {
 }
 
 fn why_row(name: &str, query: &Query, site: &Site<'_>, line: u8) {
-    let (numbers, octets) = (numbers(query), octets(site));
+    let (numbers, octets, number) = (numbers(query), octets(site), line.into());
     row(
         name,
-        || raw::why(black_box(&numbers), black_box(&octets), black_box(line)),
+        || raw::why(black_box(&numbers), black_box(&octets), black_box(number)),
         || reference_why(black_box(query), black_box(site), black_box(line)),
     );
-    let reached = raw::why(&numbers, &octets, line) == 0;
+    let reached = raw::why(&numbers, &octets, number) == 0;
     assert_eq!(reached, name.ends_with("reached"));
     assert_eq!(
         reference_why(query, site, line).map(|stop| stop.is_none()),

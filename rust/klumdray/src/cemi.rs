@@ -162,7 +162,7 @@ pub fn write(
     payload: &[u8],
     room: &mut [u8],
 ) -> Result<usize, Refusal> {
-    let (code, error_mark) = (code.octet(), error_mark.into());
+    let (code, error_mark) = (code.octet().into(), error_mark.into());
     written(raw::cemi_write(
         code,
         error_mark,

@@ -262,7 +262,7 @@ pub fn step<'a>(
     let setting = raw::Setting {
         settings: &settings.block(),
         table: settings.table,
-        side: side.number(),
+        side: side.number().into(),
     };
     let answer = Step(raw::step(&setting, &mut memory.0, octets, room));
     Outcome::answered(answer, room)

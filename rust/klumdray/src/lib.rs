@@ -40,5 +40,5 @@ pub const LINKED: &str = env!("KLUMDRAY_LINKED");
 /// ```
 #[inline]
 pub fn check_octet(octets: &[u8]) -> u8 {
-    raw::check_octet(octets)
+    raw::check_octet(octets) as u8
 }

@@ -26,11 +26,11 @@ impl Meaning {
         Numbers {
             extended: self.extended.into(),
             first_sending: self.first_sending.into(),
-            priority: self.priority,
-            source: self.source,
+            priority: self.priority.into(),
+            source: self.source.into(),
             group: self.group.into(),
-            destination: self.destination,
-            count: self.count,
+            destination: self.destination.into(),
+            count: self.count.into(),
         }
     }
 }

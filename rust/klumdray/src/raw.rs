@@ -1,25 +1,25 @@
 //! The library's own surface, numbers in and numbers out, as `include/klumdray.h` documents it.
 //!
-//! Every number may be given here, in its range or not. The calls of the other modules say the
-//! same with types.
+//! Every number may be given here, of 32 bits as in C, in its range or not. The calls of the other
+//! modules say the same with types.
 
 /// The numbers that a writer is given; one outside its range draws 14.
 #[derive(Clone, Copy, Debug, PartialEq, Eq)]
 pub struct Numbers {
     /// 0 standard, 1 extended.
-    pub extended: u8,
+    pub extended: u32,
     /// The repeat flag: 1 first sending, 0 repeated.
-    pub first_sending: u8,
+    pub first_sending: u32,
     /// The two priority bits, 0 to 3.
-    pub priority: u8,
+    pub priority: u32,
     /// The source address.
-    pub source: u16,
+    pub source: u32,
     /// AT: 1 group, 0 individual.
-    pub group: u8,
+    pub group: u32,
     /// The destination address.
-    pub destination: u16,
+    pub destination: u32,
     /// The hop count, 0 to 7.
-    pub count: u8,
+    pub count: u32,
 }
 
 /// The octets and the number that set a coupler for one step; what is outside its range is refused.
@@ -31,20 +31,20 @@ pub struct Setting<'a> {
     /// The filter table: 8,192 octets, or none where no group code is 1.
     pub table: &'a [u8],
     /// The receiving side: 0 main, 1 sub.
-    pub side: u8,
+    pub side: u32,
 }
 
 /// The numbers of a query; one outside its range is refused.
 #[derive(Clone, Copy, Debug, PartialEq, Eq)]
 pub struct Query {
     /// The starting line.
-    pub start: u8,
+    pub start: u32,
     /// 0 individual, 1 group.
-    pub kind: u8,
+    pub kind: u32,
     /// The destination address.
-    pub destination: u16,
+    pub destination: u32,
     /// The hop count on the starting line, 0 to 7.
-    pub count: u8,
+    pub count: u32,
 }
 
 /// A site, well-formed or not: its couplers, and the two stores that their filter tables lie in.
@@ -109,9 +109,9 @@ macro_rules! call_writer {
                 $numbers.destination,
                 $numbers.count,
                 $payload.as_ptr(),
-                $payload.len(),
+                $payload.len() as u64,
                 $room.as_mut_ptr(),
-                $room.len(),
+                $room.len() as u64,
             )
         }
     };
@@ -129,11 +129,11 @@ macro_rules! call_tracer {
                 $query.destination,
                 $query.count,
                 $site.records.as_ptr(),
-                $site.records.len(),
+                $site.records.len() as u64,
                 $site.project.as_ptr(),
-                $site.project.len(),
+                $site.project.len() as u64,
                 $site.own.as_ptr(),
-                $site.own.len(),
+                $site.own.len() as u64,
                 $($last),+
             )
         }
@@ -146,9 +146,9 @@ macro_rules! call_tracer {
 /// assert_eq!(klumdray::raw::check_octet(&[0x0f]), 0xf0);
 /// ```
 #[inline]
-pub fn check_octet(octets: &[u8]) -> u8 {
+pub fn check_octet(octets: &[u8]) -> u32 {
     // SAFETY: the library reads the n octets lent and keeps nothing.
-    unsafe { klumdray_check_octet(octets.as_ptr(), octets.len()) }
+    unsafe { klumdray_check_octet(octets.as_ptr(), octets.len() as u64) }
 }
 
 /// A TP1 reader's answer as one number: bits 0 to 7 are the refusal's number, 0 if accepted.
@@ -160,7 +160,7 @@ pub fn check_octet(octets: &[u8]) -> u8 {
 #[inline]
 pub fn tp1_read(octets: &[u8]) -> u64 {
     // SAFETY: the library reads the n octets lent and keeps nothing.
-    unsafe { klumdray_tp1_read(octets.as_ptr(), octets.len()) }
+    unsafe { klumdray_tp1_read(octets.as_ptr(), octets.len() as u64) }
 }
 
 /// A TP1 writer's answer: bits 0 to 7 the number, bits 8 to 63 the octets written.
@@ -187,7 +187,7 @@ pub fn tp1_write(numbers: &Numbers, payload: &[u8], room: &mut [u8]) -> u64 {
 #[inline]
 pub fn cemi_read(octets: &[u8]) -> u64 {
     // SAFETY: the library reads the n octets lent and keeps nothing.
-    unsafe { klumdray_cemi_read(octets.as_ptr(), octets.len()) }
+    unsafe { klumdray_cemi_read(octets.as_ptr(), octets.len() as u64) }
 }
 
 /// A cEMI writer's answer: bits 0 to 7 the number, bits 8 to 63 the octets written.
@@ -203,8 +203,8 @@ pub fn cemi_read(octets: &[u8]) -> u64 {
 /// ```
 #[inline]
 pub fn cemi_write(
-    code: u8,
-    error_mark: u8,
+    code: u32,
+    error_mark: u32,
     numbers: &Numbers,
     payload: &[u8],
     room: &mut [u8],
@@ -225,7 +225,7 @@ pub fn cemi_write(
 #[inline]
 pub fn routing_read(octets: &[u8]) -> u64 {
     // SAFETY: the library reads the n octets lent and keeps nothing.
-    unsafe { klumdray_routing_read(octets.as_ptr(), octets.len()) }
+    unsafe { klumdray_routing_read(octets.as_ptr(), octets.len() as u64) }
 }
 
 /// A routing writer's answer: bits 0 to 7 the number, bits 8 to 63 the octets written.
@@ -241,8 +241,8 @@ pub fn routing_read(octets: &[u8]) -> u64 {
 /// ```
 #[inline]
 pub fn routing_write(
-    code: u8,
-    error_mark: u8,
+    code: u32,
+    error_mark: u32,
     numbers: &Numbers,
     payload: &[u8],
     room: &mut [u8],
@@ -280,16 +280,16 @@ pub fn step(setting: &Setting<'_>, memory: &mut [u8], octets: &[u8], room: &mut 
     unsafe {
         klumdray_step(
             setting.settings.as_ptr(),
-            setting.settings.len(),
+            setting.settings.len() as u64,
             setting.table.as_ptr(),
-            setting.table.len(),
+            setting.table.len() as u64,
             setting.side,
             memory.as_mut_ptr(),
-            memory.len(),
+            memory.len() as u64,
             octets.as_ptr(),
-            octets.len(),
+            octets.len() as u64,
             room.as_mut_ptr(),
-            room.len(),
+            room.len() as u64,
         )
     }
 }
@@ -309,7 +309,7 @@ pub fn step(setting: &Setting<'_>, memory: &mut [u8], octets: &[u8], room: &mut 
 /// ```
 #[inline]
 pub fn trace(query: &Query, site: &Site<'_>, room: &mut [u8]) -> u64 {
-    let (front, length) = (room.as_mut_ptr(), room.len());
+    let (front, length) = (room.as_mut_ptr(), room.len() as u64);
     call_tracer!(klumdray_trace, query, site, front, length)
 }
 
@@ -328,6 +328,6 @@ pub fn trace(query: &Query, site: &Site<'_>, room: &mut [u8]) -> u64 {
 /// assert_eq!(klumdray::raw::why(&query, &site, 0x00), 14);
 /// ```
 #[inline]
-pub fn why(query: &Query, site: &Site<'_>, line: u8) -> u32 {
+pub fn why(query: &Query, site: &Site<'_>, line: u32) -> u32 {
     call_tracer!(klumdray_why, query, site, line)
 }

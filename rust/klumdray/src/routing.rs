@@ -47,7 +47,7 @@ pub fn read(octets: &[u8]) -> Result<Frame<'_>, Refusal> {
 /// ```
 #[inline]
 pub fn write(meaning: &Meaning, payload: &[u8], room: &mut [u8]) -> Result<usize, Refusal> {
-    let code = Code::Indication.octet();
+    let code = Code::Indication.octet().into();
     written(raw::routing_write(
         code,
         0,

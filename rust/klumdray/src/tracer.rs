@@ -35,10 +35,10 @@ impl Query {
     #[inline]
     fn numbers(&self) -> raw::Query {
         raw::Query {
-            start: self.start,
-            kind: u8::from(self.group),
-            destination: self.destination,
-            count: self.count,
+            start: self.start.into(),
+            kind: self.group.into(),
+            destination: self.destination.into(),
+            count: self.count.into(),
         }
     }
 }
@@ -202,5 +202,5 @@ pub enum Why {
 /// ```
 #[inline]
 pub fn why(query: &Query, site: &Site<'_>, line: u8) -> Result<Why, Refusal> {
-    answer::why(raw::why(&query.numbers(), site, line))
+    answer::why(raw::why(&query.numbers(), site, line.into()))
 }

@@ -14,8 +14,7 @@ use couplers::{library_step, packed, put_frame, reference_step, settings, Compar
 use couplers::{Stepper, LARGEST_ROOM, MEMORY};
 use generator::{seed, Generator};
 use klumdray::coupler::{self, Medium, Memory, Settings, Side};
-use klumdray::raw::Setting;
-use klumdray::Refusal;
+use klumdray::{raw, Refusal};
 use reference::coupler::{Acknowledgement, Coupler, Outcome, TABLE_SIZE};
 use traffic::Series;
 
@@ -157,14 +156,14 @@ fn assert_passes(coupler: &Coupler<'_>, group: bool, destinations: &[u16]) -> u6
     let (mut memory, mut room, mut passed) = ([0; MEMORY], [0; LARGEST_ROOM], 0);
     let settings = settings(coupler.line, coupler.codes, 0);
     for (number, side) in [(0, Side::Main), (1, Side::Sub)] {
-        let setting = Setting {
+        let setting = raw::Setting {
             settings: &settings,
             table: coupler.table,
             side: number,
         };
         for &destination in destinations {
             let octets = frame(group, destination);
-            let answer = klumdray::raw::step(&setting, &mut memory, &octets, &mut room);
+            let answer = raw::step(&setting, &mut memory, &octets, &mut room);
             let own = !group && destination == u16::from(coupler.line) << 8;
             let passes = coupler.may_pass(side, group, destination);
             let acknowledged = own || passes;

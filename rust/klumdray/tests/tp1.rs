@@ -237,6 +237,12 @@ fn bindings_agree_with_the_reference() {
     assert_agrees("bindings", BINDINGS);
 }
 
+/// The surface's answer, which is an octet as a number of 32 bits.
+fn raw_check_octet(octets: &[u8]) -> u8 {
+    let answer = klumdray::raw::check_octet(octets);
+    u8::try_from(answer).expect("an octet")
+}
+
 fn check_octets_differ(proved: fn(&[u8]) -> u8, expected: fn(&[u8]) -> u8) -> Option<Vec<u8>> {
     let mut generator = Generator::new(seed());
     let mut inputs = (0..=300)
@@ -248,10 +254,7 @@ fn check_octets_differ(proved: fn(&[u8]) -> u8, expected: fn(&[u8]) -> u8) -> Op
 #[test]
 fn check_octet_agrees_with_the_reference() {
     let expected = reference::check_octet;
-    assert_eq!(
-        check_octets_differ(klumdray::raw::check_octet, expected),
-        None
-    );
+    assert_eq!(check_octets_differ(raw_check_octet, expected), None);
     assert_eq!(check_octets_differ(klumdray::check_octet, expected), None);
 }
 
@@ -494,7 +497,7 @@ mod wrong {
 
     #[test]
     fn check_octet_is_noticed() {
-        let proved = klumdray::raw::check_octet;
+        let proved = raw_check_octet;
         assert!(check_octets_differ(proved, not_complemented).is_some());
         assert!(check_octets_differ(proved, |octets| octets.len() as u8).is_some());
     }

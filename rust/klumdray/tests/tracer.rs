@@ -16,11 +16,12 @@ mod wrong_tracers;
 
 use generator::{seed, Generator};
 use klumdray::coupler::Side;
-use klumdray::raw::{Query, Site};
+use klumdray::raw::Site;
 use klumdray::tracer::Why;
 use plans::{Plan, Stores};
-use reference::tracer::{way, Stop, Traced};
-use sites::{packed, packed_why, Comparison, Tracer, LIBRARY, REFERENCE};
+use reference::tracer::{way, Query, Stop, Traced};
+use sites::{library_trace, library_why, packed, packed_why};
+use sites::{Comparison, Tracer, LIBRARY, REFERENCE};
 
 const SITES: u64 = 20_000;
 
@@ -132,7 +133,7 @@ fn bindings_site<'a>(site: &Site<'a>) -> klumdray::tracer::Site<'a> {
 
 fn bindings_trace(query: &Query, site: &Site<'_>, room: &mut [u8]) -> u64 {
     let Some(asked) = bindings_query(query) else {
-        return klumdray::raw::trace(query, site, room);
+        return library_trace(query, site, room);
     };
     let front = room.as_ptr();
     let traced = klumdray::tracer::trace(&asked, &bindings_site(site), room);
@@ -151,7 +152,7 @@ fn bindings_why(query: &Query, site: &Site<'_>, line: u8) -> u32 {
     use klumdray::tracer::Reason as Bound;
     use reference::tracer::Reason;
     let Some(asked) = bindings_query(query) else {
-        return klumdray::raw::why(query, site, line);
+        return library_why(query, site, line);
     };
     let why = klumdray::tracer::why(&asked, &bindings_site(site), line);
     packed_why(

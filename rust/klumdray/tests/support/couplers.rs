@@ -1,7 +1,7 @@
 //! Steps for the comparison: two implementations are asked the same, each with a memory of its own
 //! that is carried on, and the first answer, memory or room in which they differ is reported.
 
-use klumdray::raw::Setting;
+use klumdray::raw;
 use reference::coupler::{Acknowledgement, Coupler, Memory, Outcome, Remembered, LARGEST_FRAME};
 use reference::{Format, Given, Meaning};
 use std::fmt;
@@ -21,6 +21,24 @@ const LARGEST_MEMORY: usize = MEMORY + 1;
 pub const LARGEST_ROOM: usize = 300;
 const NOT_LENT: usize = 16;
 
+/// The settings of a step, in their ranges or not.
+#[derive(Clone, Copy)]
+pub struct Setting<'a> {
+    pub settings: &'a [u8],
+    pub table: &'a [u8],
+    pub side: u8,
+}
+
+impl<'a> Setting<'a> {
+    pub fn numbers(&self) -> raw::Setting<'a> {
+        raw::Setting {
+            settings: self.settings,
+            table: self.table,
+            side: self.side.into(),
+        }
+    }
+}
+
 /// What one step is lent.
 pub struct Lent<'a> {
     pub setting: Setting<'a>,
@@ -32,7 +50,7 @@ pub struct Lent<'a> {
 pub type Stepper = dyn FnMut(&mut Lent<'_>) -> u64;
 
 pub fn library_step(lent: &mut Lent<'_>) -> u64 {
-    klumdray::raw::step(&lent.setting, lent.memory, lent.octets, lent.room)
+    raw::step(&lent.setting.numbers(), lent.memory, lent.octets, lent.room)
 }
 
 /// The reference behind the library's surface, which adds the blocks and a refusal of their own.

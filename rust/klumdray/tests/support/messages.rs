@@ -117,7 +117,7 @@ fn library_write<const HEADER: usize>(request: &Request, payload: &[u8], room: &
         ROUTING => klumdray::raw::routing_write,
         _ => klumdray::raw::cemi_write,
     };
-    let (code, error_mark) = (request.code, request.error_mark);
+    let (code, error_mark) = (request.code.into(), request.error_mark.into());
     write(code, error_mark, &request.numbers(), payload, room)
 }
 

@@ -57,13 +57,13 @@ impl Request {
 
     pub fn numbers(&self) -> klumdray::raw::Numbers {
         klumdray::raw::Numbers {
-            extended: self.extended,
-            first_sending: self.first_sending,
-            priority: self.priority,
-            source: self.source,
-            group: self.group,
-            destination: self.destination,
-            count: self.count,
+            extended: self.extended.into(),
+            first_sending: self.first_sending.into(),
+            priority: self.priority.into(),
+            source: self.source.into(),
+            group: self.group.into(),
+            destination: self.destination.into(),
+            count: self.count.into(),
         }
     }
 

@@ -3,7 +3,8 @@
 
 use crate::generator::Generator;
 use crate::sites::RECORD;
-use klumdray::raw::{Query, Site};
+use klumdray::raw::Site;
+use reference::tracer::Query;
 
 const TABLE: usize = 8192;
 const MOST_PROJECT: usize = 128;

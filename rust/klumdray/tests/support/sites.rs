@@ -1,9 +1,9 @@
 //! Queries for the comparison: two tracers are asked the same, and the first answer or room in
 //! which they differ is reported.
 
-use klumdray::raw::{Query, Site};
+use klumdray::raw::{self, Site};
 use reference::coupler::Side;
-use reference::tracer::{Stop, Traced};
+use reference::tracer::{Query, Stop, Traced};
 use std::fmt;
 
 pub const RECORD: usize = 12;
@@ -20,8 +20,8 @@ pub struct Tracer {
 }
 
 pub const LIBRARY: Tracer = Tracer {
-    trace: klumdray::raw::trace,
-    why: klumdray::raw::why,
+    trace: library_trace,
+    why: library_why,
 };
 
 pub const REFERENCE: Tracer = Tracer {
@@ -29,23 +29,29 @@ pub const REFERENCE: Tracer = Tracer {
     why: reference_why,
 };
 
+pub fn library_trace(query: &Query, site: &Site<'_>, room: &mut [u8]) -> u64 {
+    raw::trace(&numbers(query), site, room)
+}
+
+pub fn library_why(query: &Query, site: &Site<'_>, line: u8) -> u32 {
+    raw::why(&numbers(query), site, line.into())
+}
+
+fn numbers(query: &Query) -> raw::Query {
+    raw::Query {
+        start: query.start.into(),
+        kind: query.kind.into(),
+        destination: query.destination.into(),
+        count: query.count.into(),
+    }
+}
+
 pub fn reference_trace(query: &Query, site: &Site<'_>, room: &mut [u8]) -> u64 {
-    let traced = reference::tracer::trace(&reference_query(query), &reference_site(site), room);
-    packed(traced)
+    packed(reference::tracer::trace(query, &reference_site(site), room))
 }
 
 pub fn reference_why(query: &Query, site: &Site<'_>, line: u8) -> u32 {
-    let why = reference::tracer::why(&reference_query(query), &reference_site(site), line);
-    packed_why(why)
-}
-
-fn reference_query(query: &Query) -> reference::tracer::Query {
-    reference::tracer::Query {
-        start: query.start,
-        kind: query.kind,
-        destination: query.destination,
-        count: query.count,
-    }
+    packed_why(reference::tracer::why(query, &reference_site(site), line))
 }
 
 pub fn reference_site<'a>(site: &Site<'a>) -> reference::site::Site<'a> {

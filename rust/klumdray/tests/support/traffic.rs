@@ -1,9 +1,8 @@
 //! Series of steps from a seed: settings kept for a series, frames from a few addresses, so that
 //! repetitions come about, and now and then something wrong in any of them.
 
-use crate::couplers::{is_from_ip, settings, CODES, LINE, MEDIUM, MEMORY, SETTINGS};
+use crate::couplers::{is_from_ip, settings, Setting, CODES, LINE, MEDIUM, MEMORY, SETTINGS};
 use crate::generator::Generator;
-use klumdray::raw::Setting;
 use reference::Given;
 
 const TABLE: usize = 8192;

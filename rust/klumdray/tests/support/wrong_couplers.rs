@@ -1,10 +1,9 @@
 //! References with one rule of the coupler turned round.
 
 use crate::couplers::{
-    forwarded, given, is_own, is_repetition, part, put_part, reference_step, Lent, Stepper, CODES,
-    LINE, MEDIUM, MEMORY, SETTINGS,
+    forwarded, given, is_own, is_repetition, part, put_part, reference_step, Lent, Setting,
+    Stepper, CODES, LINE, MEDIUM, MEMORY, SETTINGS,
 };
-use klumdray::raw::Setting;
 use reference::coupler::{lowered, Side, LARGEST_FRAME, ROOM_SIZE, TABLE_SIZE};
 use reference::{Format, Meaning};
 

@@ -3,10 +3,10 @@
 use crate::sites::{direction, reason, reference_site, reference_why, stopping_line};
 use crate::sites::{Tracer, RECORD, REFERENCE};
 use crate::wrong_tracers::ROWS;
-use klumdray::raw::{Query, Site};
+use klumdray::raw::Site;
 use reference::coupler::Side;
 use reference::site::main_side;
-use reference::tracer::way;
+use reference::tracer::{way, Query};
 
 const NOT_FITTED: u8 = 1;
 const OWN_ADDRESS: u8 = 2;

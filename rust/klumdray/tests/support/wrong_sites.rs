@@ -2,7 +2,8 @@
 
 use crate::sites::{listed, reference_site, reference_trace, Tracer, RECORD};
 use crate::wrong_tracers::{changed, is_accepted, tracers, ROWS};
-use klumdray::raw::{Query, Site};
+use klumdray::raw::Site;
+use reference::tracer::Query;
 
 const ROOM: usize = 768;
 const TABLE: usize = 8192;

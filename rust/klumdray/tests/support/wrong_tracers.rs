@@ -1,9 +1,9 @@
 //! References with one rule of the tracer turned round.
 
 use crate::sites::{listed, reference_trace, Tracer, RECORD, REFERENCE};
-use klumdray::raw::{Query, Site};
+use klumdray::raw::Site;
 use reference::site::main_side;
-use reference::tracer::way;
+use reference::tracer::{way, Query};
 
 const ROOM: usize = 768;
 const TABLE: usize = 8192;
