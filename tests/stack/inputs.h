@@ -1,36 +1,51 @@
 /*
- * How much stack each exported call takes, on x86-64 Linux: it is run instruction by instruction and
- * the lowest stack pointer is kept, less that of an empty call. (Code for this machine may also use
- * the 128 octets below the stack pointer, which every stack has to leave free.) Told is the most over
- * the inputs below: the longest frames of both formats, every direction of a step, refusals, and
- * traces and explanations on a site of 255 couplers with filter tables, over the longest path.
+ * The inputs over which the stack of each exported call is measured: the longest frames of both formats,
+ * every direction of a step, refusals, and traces and explanations on a site of 255 couplers with filter
+ * tables, over the longest path. Who includes this file measures one call by `lowest_of`, the lowest
+ * place of the stack that a function without parameters comes to, and tells a figure by `tell_figure`.
  */
-#define _GNU_SOURCE
-#include <signal.h>
-#include <stdio.h>
-#include <string.h>
-#include <ucontext.h>
+#ifndef INPUTS_H
+#define INPUTS_H
 
 #include "klumdray.h"
 
-enum { HANDLER_STACK = 1 << 16, COUPLERS = 255 };
+static uintptr_t lowest_of(void (*call)(void));
+static void tell_figure(const char *name, unsigned octets);
 
-static uint8_t handler_stack[HANDLER_STACK];
-static volatile uintptr_t lowest;
+enum { COUPLERS = 255 };
 
 static uint8_t payload[255], tp1[KLUMDRAY_FRAME_SIZE], cemi[300], datagram[300], room[800];
 static uint8_t memory[KLUMDRAY_MEMORY_SIZE], table[KLUMDRAY_TABLE_SIZE];
 static uint8_t site[COUPLERS * KLUMDRAY_RECORD_SIZE];
 static uint8_t settings[KLUMDRAY_SETTINGS_SIZE] = {0x47, 1, 2, 1, 1, 1, 2, 1, 1, KLUMDRAY_TP1};
 static size_t tp1_length, cemi_length, datagram_length;
-static uint8_t side, kind, start, line;
+static uint32_t side, kind, start, line;
 static uint64_t answer;
 
-static void nothing(void) {}
-static void check_octet(void) { answer = klumdray_check_octet(tp1, tp1_length); }
-static void tp1_read(void) { answer = klumdray_tp1_read(tp1, tp1_length); }
-static void cemi_read(void) { answer = klumdray_cemi_read(cemi, cemi_length); }
-static void routing_read(void) { answer = klumdray_routing_read(datagram, datagram_length); }
+static void nothing(void)
+{
+    answer = 0;
+}
+
+static void check_octet(void)
+{
+    answer = klumdray_check_octet(tp1, tp1_length);
+}
+
+static void tp1_read(void)
+{
+    answer = klumdray_tp1_read(tp1, tp1_length);
+}
+
+static void cemi_read(void)
+{
+    answer = klumdray_cemi_read(cemi, cemi_length);
+}
+
+static void routing_read(void)
+{
+    answer = klumdray_routing_read(datagram, datagram_length);
+}
 
 static void tp1_write(void)
 {
@@ -69,66 +84,47 @@ static void why(void)
                           line);
 }
 
-static void keep_lowest(int number, siginfo_t *info, void *context)
-{
-    uintptr_t pointer = (uintptr_t)((ucontext_t *)context)->uc_mcontext.gregs[REG_RSP];
-    (void)number, (void)info;
-    if (pointer < lowest)
-        lowest = pointer;
-}
-
-/* The processor's trap flag stops it after each instruction. */
-static uintptr_t lowest_of(void (*call)(void))
-{
-    lowest = UINTPTR_MAX;
-    __asm__ volatile("pushfq; orq $0x100, (%%rsp); popfq" ::: "memory", "cc");
-    call();
-    __asm__ volatile("pushfq; andq $-0x101, (%%rsp); popfq" ::: "memory", "cc");
-    return lowest;
-}
-
-static void handle_traps(void)
-{
-    stack_t own = {.ss_sp = handler_stack, .ss_size = sizeof handler_stack};
-    struct sigaction action = {.sa_sigaction = keep_lowest, .sa_flags = SA_SIGINFO | SA_ONSTACK};
-    sigaltstack(&own, NULL);
-    sigaction(SIGTRAP, &action, NULL);
-}
-
-static size_t most;
+static unsigned most;
 
 static void try_call(void (*call)(void))
 {
-    size_t own = lowest_of(nothing) - lowest_of(call);
+    unsigned own = (unsigned)(lowest_of(nothing) - lowest_of(call));
     if (own > most)
         most = own;
 }
 
 static void tell(const char *name)
 {
-    printf("%-22s %5zu\n", name, most);
+    tell_figure(name, most);
     most = 0;
+}
+
+static void copy(uint8_t *to, const uint8_t *from, size_t n)
+{
+    while (n-- > 0)
+        to[n] = from[n];
 }
 
 static void prepare(void)
 {
     size_t i;
-    memset(table, 0xFF, sizeof table);
+    for (i = 0; i < sizeof table; i++)
+        table[i] = 0xFF;
     for (i = 0; i < COUPLERS; i++) {
         uint8_t *record = site + i * KLUMDRAY_RECORD_SIZE;
         record[0] = 0x43, record[1] = 0x50, record[2] = (uint8_t)(i + 1);
-        memcpy(record + 3, settings + 1, 8);
+        copy(record + 3, settings + 1, 8);
         record[11] = 0;
     }
     tp1_write();
     tp1_length = klumdray_written(answer);
-    memcpy(tp1, room, tp1_length);
+    copy(tp1, room, tp1_length);
     cemi_write();
     cemi_length = klumdray_written(answer);
-    memcpy(cemi, room, cemi_length);
+    copy(cemi, room, cemi_length);
     routing_write();
     datagram_length = klumdray_written(answer);
-    memcpy(datagram, room, datagram_length);
+    copy(datagram, room, datagram_length);
 }
 
 static void steps(void)
@@ -159,9 +155,8 @@ static void traces(void)
     tell("klumdray_why");
 }
 
-int main(void)
+static void measure_all(void)
 {
-    handle_traps();
     prepare();
     try_call(check_octet), tell("klumdray_check_octet");
     try_call(tp1_read), tell("klumdray_tp1_read");
@@ -172,5 +167,6 @@ int main(void)
     try_call(routing_write), tell("klumdray_routing_write");
     steps();
     traces();
-    return 0;
 }
+
+#endif
