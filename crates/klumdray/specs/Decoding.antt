@@ -1,11 +1,11 @@
 -- The numbers that cross the surface, taken apart again: what the helpers at the end of include/klumdray.h work out, each under its name
 -- there. Beside them the whole answer, as document 01's number and values.
 use Prim.Native.Nat.{ℕ, _+_, _-_, _*_, _/_, _%_, _^_, _≤_, _<_}
-use mathlib.Core.Bool.{Bool, true, cond}
+use mathlib.Core.Bool.{Bool, true, cond, _&&_}
 use mathlib.Core.List.{List, [], _∷_}
 use mathlib.Core.Logic.{_↔_}
 use mathlib.Core.Path.{_≡_}
-use lib.Dec.{ltb, eqb}
+use lib.Dec.{ltb, leb, eqb}
 use lib.ListN.{length, take, drop, getD}
 use Rattle.coupler.specs.Step.{acknowledgementNumber}
 use Rattle.coupler.specs.declared.Outcome.{Outcome}
@@ -232,3 +232,12 @@ pub record ListReads (passes : Crossing → Bool) (q : Query) (answer : ℕ) (ro
   pub places : (place : ℕ) → place < linesIn answer → (listedLine room place < 256) × ListedAt passes q room place
   pub rising : (place later : ℕ) → place < later → later < linesIn answer → listedLine room place < listedLine room later
   pub each : (line : ℕ) → line < 256 → isListed passes (q .start) (q .count) line ≡ true → (place : ℕ) × ((place < linesIn answer) × (listedLine room place ≡ line))
+
+-- klumdray_overlap, of n octets from one address on and m from another on
+abbrev pub overlapping : ℕ → ℕ → ℕ → ℕ → Bool
+overlapping from n other m = cond (leb from other) (ltb (other - from) n && ltb 0 m) (ltb (from - other) m && ltb 0 n)
+
+-- an octet that lies in both
+pub record InBoth (from n other m place : ℕ) : Type 0 where
+  pub first : (from ≤ place) × (place < from + n)
+  pub second : (other ≤ place) × (place < other + m)
