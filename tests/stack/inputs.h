@@ -15,7 +15,9 @@ static void tell_figure(const char *name, unsigned octets);
 enum { COUPLERS = 255 };
 
 static uint8_t payload[255], tp1[KLUMDRAY_FRAME_SIZE], cemi[300], datagram[300], room[800];
-static uint8_t memory[KLUMDRAY_MEMORY_SIZE], table[KLUMDRAY_TABLE_SIZE];
+static uint8_t memory[KLUMDRAY_MEMORY_SIZE];
+/* Every group is in it. Not to be written, so that on a board it lies in flash. */
+static const uint8_t table[KLUMDRAY_TABLE_SIZE] = {[0 ... KLUMDRAY_TABLE_SIZE - 1] = 0xFF};
 static uint8_t site[COUPLERS * KLUMDRAY_RECORD_SIZE];
 static uint8_t settings[KLUMDRAY_SETTINGS_SIZE] = {0x47, 1, 2, 1, 1, 1, 2, 1, 1, KLUMDRAY_TP1};
 static size_t tp1_length, cemi_length, datagram_length;
@@ -108,8 +110,6 @@ static void copy(uint8_t *to, const uint8_t *from, size_t n)
 static void prepare(void)
 {
     size_t i;
-    for (i = 0; i < sizeof table; i++)
-        table[i] = 0xFF;
     for (i = 0; i < COUPLERS; i++) {
         uint8_t *record = site + i * KLUMDRAY_RECORD_SIZE;
         record[0] = 0x43, record[1] = 0x50, record[2] = (uint8_t)(i + 1);
