@@ -1,6 +1,10 @@
 /*
  * The C surface as a C program meets it: empty slices, document 01's P1 to P6, P7's datagram, steps
- * of a coupler with P7 to P10, and sites with P12 and P13.
+ * of a coupler with P7 to P10, sites with P12 and P13, numbers with more bits than their ranges
+ * have, and slices that overlap or adjoin.
+ *
+ * It also runs on boards: no assumption about the width of a pointer, and of the C library only
+ * memcpy, memset, memcmp, strcmp and printf with %s and %u.
  */
 #include "klumdray.h"
 
@@ -9,13 +13,20 @@
 
 static unsigned passed, failed;
 
-static void check(const char *name, int holds)
+/* Counts a check, and begins the line that names it. */
+static void count(int holds)
 {
-    printf("%s %s\n", holds ? "ok" : "FAILED", name);
+    printf("%s", holds ? "ok" : "FAILED");
     if (holds)
         passed++;
     else
         failed++;
+}
+
+static void check(const char *name, int holds)
+{
+    count(holds);
+    printf(" %s\n", name);
 }
 
 static const uint8_t P1[12] = {0xBC, 0x00, 0x00, 0x12, 0x34, 0xB4,
@@ -79,6 +90,8 @@ static void accepted(void)
     check("P1's other bits are 0", answer >> 56 == 0);
     check("P1 has no message code", klumdray_message_code(answer) == 0);
     check("P1's check octet", klumdray_check_octet(P1, sizeof P1 - 1) == 0xE5);
+    check("a check octet compares with an octet of a frame",
+          klumdray_check_octet(P1, sizeof P1 - 1) == P1[sizeof P1 - 1]);
 }
 
 static void refused(void)
@@ -190,19 +203,23 @@ static void datagram_written(void)
     check("P7's message is written", memcmp(room, P7 + 6, sizeof P7 - 6) == 0);
 }
 
-/* What is left of an answer with one bit, where so many are taken from a bit on. */
+/* What is left of an answer with one bit, where so many are taken from a bit on. A length is a
+ * size_t, which has fewer bits than an answer on some machines. */
 static uint64_t taken(unsigned bit, unsigned from, unsigned width)
 {
     return bit >= from && bit < from + width ? (uint64_t)1 << (bit - from) : 0;
 }
 
-#define TAKES(helper, from, width)                                                                 \
+#define TAKES_OF(type, helper, from, width)                                                        \
     do {                                                                                           \
-        unsigned bit, holds = 1;                                                                   \
-        for (bit = 0; bit < 64; bit++)                                                             \
-            holds &= helper((uint64_t)1 << bit) == taken(bit, from, width);                        \
+        unsigned bit;                                                                              \
+        int holds = 1;                                                                             \
+        for (bit = 0; bit < 8 * sizeof(type); bit++)                                               \
+            holds &= helper((type)1 << bit) == (size_t)taken(bit, from, width);                    \
         check(#helper " takes " #width " bits from " #from " on", holds);                          \
     } while (0)
+
+#define TAKES(helper, from, width) TAKES_OF(uint64_t, helper, from, width)
 
 /* Each helper takes the bits that its definition has in crates/klumdray/specs/Decoding.antt: what is
  * proved there is so proved of these. */
@@ -225,9 +242,9 @@ static void helpers(void)
     TAKES(klumdray_forwarded, 32, 32);
     TAKES(klumdray_listed, 8, 16);
     TAKES(klumdray_forwardings, 24, 16);
-    TAKES(klumdray_reason, 8, 8);
-    TAKES(klumdray_stopping_line, 16, 8);
-    TAKES(klumdray_stopping_side, 24, 1);
+    TAKES_OF(uint32_t, klumdray_reason, 8, 8);
+    TAKES_OF(uint32_t, klumdray_stopping_line, 16, 8);
+    TAKES_OF(uint32_t, klumdray_stopping_side, 24, 1);
     check("an extended payload begins at octet 7", klumdray_tp1_payload_start(1u << 8) == 7);
     check("a datagram's information begins at octet 8", klumdray_routing_information_start() == 8);
     check("1 is the octet 11h", klumdray_message_code((uint64_t)KLUMDRAY_REQUEST << 56) == 0x11);
@@ -263,7 +280,7 @@ static struct coupler coupler(uint8_t line, uint8_t code, uint8_t medium)
 }
 
 /* A step without a filter table. */
-static uint64_t step(struct coupler *c, uint8_t side, const uint8_t *octets, size_t n)
+static uint64_t step(struct coupler *c, uint32_t side, const uint8_t *octets, size_t n)
 {
     return klumdray_step(c->settings, sizeof c->settings, NULL, 0, side, c->memory,
                          sizeof c->memory, octets, n, c->room, sizeof c->room);
@@ -374,21 +391,31 @@ static void steps_for_itself_and_to_ip(void)
     check("P1 to IP is a datagram", is_forwarded(&c, answer, datagram, sizeof datagram));
 }
 
+/*
+ * Two places for large slices: filter tables, stores, and slices that overlap. The second also keeps
+ * what the first was.
+ */
+enum { LARGE = KLUMDRAY_TABLE_SIZE + 2048 };
+
+static uint8_t large[LARGE], other[LARGE];
+
 static void steps_with_a_table(void)
 {
-    static uint8_t table[KLUMDRAY_TABLE_SIZE];
+    uint8_t *const table = large;
+    const size_t n = KLUMDRAY_TABLE_SIZE;
     struct coupler c = coupler(0x11, 0, KLUMDRAY_TP1);
     uint64_t answer;
     c.settings[3] = 1;
     check("no filter table where code 1 asks for one is 18",
           is_refused(step(&c, KLUMDRAY_MAIN, P1, sizeof P1), 18));
+    memset(table, 0, n);
     table[0x1234 / 8] = 1u << 0x1234 % 8;
-    answer = klumdray_step(c.settings, sizeof c.settings, table, sizeof table, KLUMDRAY_MAIN,
-                           c.memory, sizeof c.memory, P1, sizeof P1, c.room, sizeof c.room);
+    answer = klumdray_step(c.settings, sizeof c.settings, table, n, KLUMDRAY_MAIN, c.memory,
+                           sizeof c.memory, P1, sizeof P1, c.room, sizeof c.room);
     check("a group in the filter table is forwarded", klumdray_forwarded(answer) == sizeof P1);
     table[0x1234 / 8] ^= 0xFF;
-    answer = klumdray_step(c.settings, sizeof c.settings, table, sizeof table, KLUMDRAY_MAIN,
-                           c.memory, sizeof c.memory, P1, sizeof P1, c.room, sizeof c.room);
+    answer = klumdray_step(c.settings, sizeof c.settings, table, n, KLUMDRAY_MAIN, c.memory,
+                           sizeof c.memory, P1, sizeof P1, c.room, sizeof c.room);
     check("another group is not", klumdray_number(answer) == 0 && klumdray_forwarded(answer) == 0);
 }
 
@@ -489,7 +516,7 @@ struct site {
     uint8_t room[KLUMDRAY_LIST_ROOM_SIZE + 8];
 };
 
-static uint8_t project[KLUMDRAY_TABLE_SIZE], own[KLUMDRAY_TABLE_SIZE];
+static uint8_t *const project = large, *const own = other;
 
 /* Couplers without a filter table, whose eight codes are all as given but broadcast's, open. */
 static struct site site(const uint8_t *lines, size_t couplers, uint8_t code)
@@ -511,15 +538,15 @@ static struct site site(const uint8_t *lines, size_t couplers, uint8_t code)
     return s;
 }
 
-static uint64_t trace(struct site *s, uint8_t start, uint8_t kind, uint16_t destination,
-                      uint8_t count)
+static uint64_t trace(struct site *s, uint32_t start, uint32_t kind, uint32_t destination,
+                      uint32_t count)
 {
     return klumdray_trace(start, kind, destination, count, s->records, s->length, project,
                           s->project_length, own, s->own_length, s->room, sizeof s->room);
 }
 
-static uint32_t why(const struct site *s, uint8_t start, uint8_t kind, uint16_t destination,
-                    uint8_t count, uint8_t line)
+static uint32_t why(const struct site *s, uint32_t start, uint32_t kind, uint32_t destination,
+                    uint32_t count, uint32_t line)
 {
     return klumdray_why(start, kind, destination, count, s->records, s->length, project,
                         s->project_length, own, s->own_length, line);
@@ -582,8 +609,8 @@ static void traces_with_tables(void)
     s.project_length = s.own_length = KLUMDRAY_TABLE_SIZE;
     s.records[11] = 0;
     s.records[23] = 128;
-    memset(project, 0, sizeof project);
-    memset(own, 0, sizeof own);
+    memset(project, 0, KLUMDRAY_TABLE_SIZE);
+    memset(own, 0, KLUMDRAY_TABLE_SIZE);
     project[0x1234 / 8] = 1u << 0x1234 % 8;
     check("a group in the project store's table",
           is_traced(&s, trace(&s, 0x00, KLUMDRAY_GROUP, 0x1234, 7), both, 6, 1));
@@ -662,10 +689,412 @@ static void reasons(void)
     s = site(LINES, 1, 1);
     s.own_length = KLUMDRAY_TABLE_SIZE;
     s.records[11] = 128;
-    memset(own, 0, sizeof own);
+    memset(own, 0, KLUMDRAY_TABLE_SIZE);
     check("code 1 and not in its table",
           is_stopped(why(&s, 0x00, KLUMDRAY_GROUP, 0x1234, 6, 0x20), KLUMDRAY_NOT_IN_TABLE, 0x20,
                      KLUMDRAY_MAIN));
+}
+
+/* A number in its range; one of 16 bits has no wider one below 65,536. */
+struct number {
+    const char *name;
+    uint32_t valid;
+    int has_16_bits;
+};
+
+/* Those of a writer of messages; a writer of TP1 frames lacks the first two. */
+static const struct number GIVEN[] = {
+    {"code", 0x29, 0},       {"error_mark", 0, 0},       {"extended", 0, 0},
+    {"first_sending", 1, 0}, {"priority", 3, 0},         {"source", 0, 1},
+    {"group", 1, 0},         {"destination", 0x1234, 1}, {"count", 4, 0},
+};
+
+static const struct number ASKED[] = {
+    {"start", 0x47, 0}, {"kind", 1, 0},    {"destination", 0x1234, 1},
+    {"count", 2, 0},    {"line", 0x45, 0},
+};
+
+enum { MOST_NUMBERS = sizeof GIVEN / sizeof GIVEN[0] };
+
+/* A call with its numbers in the order above. */
+typedef uint64_t numbered(const uint32_t *n, uint8_t *room, size_t m);
+
+static uint64_t tp1_of(const uint32_t *n, uint8_t *room, size_t m)
+{
+    return klumdray_tp1_write(n[2], n[3], n[4], n[5], n[6], n[7], n[8], P1 + 6, 5, room, m);
+}
+
+static uint64_t cemi_of(const uint32_t *n, uint8_t *room, size_t m)
+{
+    return klumdray_cemi_write(n[0], n[1], n[2], n[3], n[4], n[5], n[6], n[7], n[8], P1 + 6, 5,
+                               room, m);
+}
+
+static uint64_t routing_of(const uint32_t *n, uint8_t *room, size_t m)
+{
+    return klumdray_routing_write(n[0], n[1], n[2], n[3], n[4], n[5], n[6], n[7], n[8], P1 + 6, 5,
+                                  room, m);
+}
+
+static uint64_t trace_of(const uint32_t *n, uint8_t *room, size_t m)
+{
+    return klumdray_trace(n[0], n[1], n[2], n[3], NULL, 0, NULL, 0, NULL, 0, room, m);
+}
+
+static uint64_t why_of(const uint32_t *n, uint8_t *room, size_t m)
+{
+    (void)room, (void)m;
+    return klumdray_why(n[0], n[1], n[2], n[3], NULL, 0, NULL, 0, NULL, 0, n[4]);
+}
+
+/* Whether a call refuses numbers by 14, whatever its room is, and leaves the room. */
+static int is_out_of_range(numbered *call, const uint32_t *n)
+{
+    int holds;
+    memset(large, 0x55, KLUMDRAY_LIST_ROOM_SIZE);
+    holds = call(n, large, KLUMDRAY_LIST_ROOM_SIZE) == 14 && call(n, large, 1) == 14 &&
+            call(n, NULL, 0) == 14;
+    return holds && untouched(large, KLUMDRAY_LIST_ROOM_SIZE);
+}
+
+/* Each of some numbers with a bit that its range lacks: the lowest above 8 bits or above 16, the
+ * highest. */
+static void wide_numbers(const char *whose, numbered *call, const struct number *numbers,
+                         size_t from, size_t to)
+{
+    static const uint32_t bits[] = {0x100, 0x10000, 0x80000000};
+    uint32_t n[MOST_NUMBERS];
+    size_t place, bit;
+    for (place = 0; place < to; place++)
+        n[place] = numbers[place].valid;
+    count(klumdray_number(call(n, large, KLUMDRAY_LIST_ROOM_SIZE)) == 0);
+    printf(" %s takes numbers in their ranges\n", whose);
+    for (place = from; place < to; place++) {
+        int holds = 1;
+        for (bit = numbers[place].has_16_bits ? 1 : 0; bit < 3; bit++) {
+            n[place] = numbers[place].valid | bits[bit];
+            holds &= is_out_of_range(call, n);
+        }
+        n[place] = numbers[place].valid;
+        count(holds);
+        printf(" %s refuses a wider %s\n", whose, numbers[place].name);
+    }
+}
+
+static void wide_numbers_of_writers(void)
+{
+    wide_numbers("klumdray_tp1_write", tp1_of, GIVEN, 2, 9);
+    wide_numbers("klumdray_cemi_write", cemi_of, GIVEN, 0, 9);
+    wide_numbers("klumdray_routing_write", routing_of, GIVEN, 0, 9);
+}
+
+/* In its order: behind 15 and 18, before 13. */
+static void wide_sides(void)
+{
+    static const uint32_t sides[] = {0x100, 0x101, 0x10000, 0x10001, 0x80000000, 0x80000001};
+    struct coupler c = coupler(0x11, 2, KLUMDRAY_TP1);
+    int holds = 1, line = 1, table = 1, room = 1;
+    size_t i;
+    for (i = 0; i < sizeof sides / sizeof sides[0]; i++) {
+        holds &= is_refused(step(&c, sides[i], P1, sizeof P1), 14);
+        room &= is_refused(
+            klumdray_step(c.settings, 10, NULL, 0, sides[i], c.memory, 530, NULL, 0, NULL, 0), 14);
+        c.settings[3] = 1;
+        table &= is_refused(step(&c, sides[i], P1, sizeof P1), 18);
+        c.settings[0] = 0x00;
+        line &= is_refused(step(&c, sides[i], P1, sizeof P1), 15);
+        c = coupler(0x11, 2, KLUMDRAY_TP1);
+    }
+    check("a side of more than 8 bits is 14", holds);
+    check("it is 14 before 13 and 1", room);
+    check("18 comes before it", table);
+    check("15 comes before it", line);
+    check("room and memory of a wide side are untouched",
+          untouched(c.room, sizeof c.room) && is_blank(c.memory));
+}
+
+static void wide_numbers_of_queries(void)
+{
+    wide_numbers("klumdray_trace", trace_of, ASKED, 0, 4);
+    wide_numbers("klumdray_why", why_of, ASKED, 0, 5);
+}
+
+static void overlaps(void)
+{
+    const uint8_t *a = large;
+    check("a slice overlaps itself", klumdray_overlap(a, 1, a, 1));
+    check("slices of two octets overlap by one",
+          klumdray_overlap(a, 2, a + 1, 2) && klumdray_overlap(a + 1, 2, a, 2));
+    check("a slice overlaps what lies within it",
+          klumdray_overlap(a, 9, a + 4, 1) && klumdray_overlap(a + 4, 1, a, 9));
+    check("adjoining slices do not overlap",
+          !klumdray_overlap(a, 3, a + 3, 4) && !klumdray_overlap(a + 3, 4, a, 3));
+    check("slices apart do not overlap",
+          !klumdray_overlap(a, 3, a + 9, 4) && !klumdray_overlap(a + 9, 4, a, 3));
+    check("an empty slice overlaps none",
+          !klumdray_overlap(a + 2, 0, a, 9) && !klumdray_overlap(a, 9, a + 2, 0) &&
+              !klumdray_overlap(a, 0, a, 9) && !klumdray_overlap(a, 9, a, 0) &&
+              !klumdray_overlap(a, 0, a, 0));
+    check("nor does a null one", !klumdray_overlap(NULL, 0, a, 9) &&
+                                     !klumdray_overlap(a, 9, NULL, 0) &&
+                                     !klumdray_overlap(NULL, 0, NULL, 0));
+    check("no length is cut", klumdray_overlap(a, (uint64_t)1 << 32, a + 1, 1) &&
+                                  klumdray_overlap(a + 1, 1, a, (uint64_t)1 << 63) &&
+                                  !klumdray_overlap(a + 1, (uint64_t)1 << 63, a, 1));
+}
+
+struct slice {
+    uint8_t *octets;
+    size_t n;
+};
+
+/* A slice that a call is lent: its size, the octets at its front and those behind them. */
+struct lent {
+    const char *name;
+    size_t n;
+    const uint8_t *front;
+    size_t front_length;
+    uint8_t behind;
+    int is_written;
+};
+
+enum { MOST_LENT = 5 };
+
+/* A call that writes, and its checked form, with slices that neither refuses. */
+struct form {
+    const char *name;
+    uint64_t (*call)(const struct slice *s);
+    uint64_t (*checked)(const struct slice *s);
+    size_t count;
+    struct lent lent[MOST_LENT];
+};
+
+#define WRITER(name, numbers)                                                                      \
+    static uint64_t name(const struct slice *s)                                                    \
+    {                                                                                              \
+        return klumdray_##name(numbers, s[0].octets, s[0].n, s[1].octets, s[1].n);                 \
+    }
+#define FRAME 0, 1, 3, 0x0000, 1, 0x1234, 3
+#define MESSAGE 0x29, 0, FRAME
+
+WRITER(tp1_write, FRAME)
+WRITER(tp1_write_checked, FRAME)
+WRITER(cemi_write, MESSAGE)
+WRITER(cemi_write_checked, MESSAGE)
+WRITER(routing_write, MESSAGE)
+WRITER(routing_write_checked, MESSAGE)
+
+static uint64_t step_of(const struct slice *s)
+{
+    return klumdray_step(s[0].octets, s[0].n, s[1].octets, s[1].n, KLUMDRAY_MAIN, s[2].octets,
+                         s[2].n, s[3].octets, s[3].n, s[4].octets, s[4].n);
+}
+
+static uint64_t step_checked(const struct slice *s)
+{
+    return klumdray_step_checked(s[0].octets, s[0].n, s[1].octets, s[1].n, KLUMDRAY_MAIN,
+                                 s[2].octets, s[2].n, s[3].octets, s[3].n, s[4].octets, s[4].n);
+}
+
+static uint64_t trace_site(const struct slice *s)
+{
+    return klumdray_trace(0x00, KLUMDRAY_GROUP, 0x1234, 6, s[0].octets, s[0].n, s[1].octets, s[1].n,
+                          s[2].octets, s[2].n, s[3].octets, s[3].n);
+}
+
+static uint64_t trace_site_checked(const struct slice *s)
+{
+    return klumdray_trace_checked(0x00, KLUMDRAY_GROUP, 0x1234, 6, s[0].octets, s[0].n, s[1].octets,
+                                  s[1].n, s[2].octets, s[2].n, s[3].octets, s[3].n);
+}
+
+static const uint8_t BY_TABLE[KLUMDRAY_SETTINGS_SIZE] = {0x11, 2, 2, 1, 1, 2, 2, 1, 1, 0};
+static const uint8_t BY_PROJECT[] = {0x43, 0x50, 0x40, 2, 2, 1, 1, 2, 2, 1, 1, 0};
+static const uint8_t BY_OWN[] = {0x43, 0x50, 0x40, 2, 2, 1, 1, 2, 2, 1, 1, 128};
+
+#define PAYLOAD                                                                                    \
+    {                                                                                              \
+        "payload", 5, P1 + 6, 5, 0, 0                                                              \
+    }
+#define ROOM(n)                                                                                    \
+    {                                                                                              \
+        "room", n, NULL, 0, 0x55, 1                                                                \
+    }
+#define TABLE(name)                                                                                \
+    {                                                                                              \
+        name, KLUMDRAY_TABLE_SIZE, NULL, 0, 0xFF, 0                                                \
+    }
+#define NONE(name)                                                                                 \
+    {                                                                                              \
+        name, 0, NULL, 0, 0, 0                                                                     \
+    }
+#define SITE(records)                                                                              \
+    {                                                                                              \
+        "site", sizeof records, records, sizeof records, 0, 0                                      \
+    }
+
+static const struct form FORMS[] = {
+    {"klumdray_tp1_write_checked", tp1_write, tp1_write_checked, 2, {PAYLOAD, ROOM(16)}},
+    {"klumdray_cemi_write_checked", cemi_write, cemi_write_checked, 2, {PAYLOAD, ROOM(16)}},
+    {"klumdray_routing_write_checked",
+     routing_write,
+     routing_write_checked,
+     2,
+     {PAYLOAD, ROOM(24)}},
+    {"klumdray_step_checked",
+     step_of,
+     step_checked,
+     5,
+     {{"settings", sizeof BY_TABLE, BY_TABLE, sizeof BY_TABLE, 0, 0},
+      TABLE("table"),
+      {"memory", KLUMDRAY_MEMORY_SIZE, NULL, 0, 0x00, 1},
+      {"octets", sizeof P1, P1, sizeof P1, 0, 0},
+      ROOM(KLUMDRAY_ROOM_SIZE)}},
+    {"klumdray_trace_checked",
+     trace_site,
+     trace_site_checked,
+     4,
+     {SITE(BY_PROJECT), TABLE("project"), NONE("own"), ROOM(KLUMDRAY_LIST_ROOM_SIZE)}},
+    {"klumdray_trace_checked",
+     trace_site,
+     trace_site_checked,
+     4,
+     {SITE(BY_OWN), NONE("project"), TABLE("own"), ROOM(KLUMDRAY_LIST_ROOM_SIZE)}},
+};
+
+/* Puts a slice down, and says where the next may begin. */
+static uint8_t *put(const struct lent *lent, struct slice *slice, uint8_t *at)
+{
+    slice->octets = at;
+    slice->n = lent->n;
+    memset(at, lent->behind, lent->n);
+    if (lent->front_length > 0)
+        memcpy(at, lent->front, lent->front_length);
+    return at + lent->n;
+}
+
+/* All slices one behind the other, two of them first. */
+static void put_adjoining(const struct form *f, struct slice *s, size_t first, size_t second)
+{
+    uint8_t *at = large;
+    size_t i;
+    memset(large, 0xA5, sizeof large);
+    at = put(&f->lent[first], &s[first], at);
+    at = put(&f->lent[second], &s[second], at);
+    for (i = 0; i < f->count; i++)
+        if (i != first && i != second)
+            at = put(&f->lent[i], &s[i], at);
+}
+
+/* No slice that is moved over another is longer. */
+enum { MARGIN = 544, LONGEST_MOVED = KLUMDRAY_MEMORY_SIZE, SHORTENED = 3 };
+
+/* A slice with a margin on either side, and all but one other slice behind that. */
+static void put_apart(const struct form *f, struct slice *s, size_t one, size_t without)
+{
+    uint8_t *at;
+    size_t i;
+    memset(large, 0xA5, sizeof large);
+    at = put(&f->lent[one], &s[one], large + MARGIN) + MARGIN;
+    for (i = 0; i < f->count; i++)
+        if (i != one && i != without)
+            at = put(&f->lent[i], &s[i], at);
+}
+
+static void check_pair(const struct form *f, size_t one, size_t another, const char *how, int holds)
+{
+    count(holds);
+    printf(" %s: %s, %s %s\n", f->name, f->lent[one].name, f->lent[another].name, how);
+}
+
+/* Whether the checked form refuses slices by 14 and writes nothing. */
+static int is_overlap_refused(const struct form *f, const struct slice *s)
+{
+    memcpy(other, large, sizeof large);
+    return f->checked(s) == 14 && memcmp(other, large, sizeof large) == 0;
+}
+
+/*
+ * A slice that is written and another, moved over it. A store or a filter table is lent shorter,
+ * which the call itself would refuse by 18.
+ */
+static void overlapping(const struct form *f, size_t written, size_t moved)
+{
+    struct slice s[MOST_LENT];
+    struct slice *w = &s[written], *m = &s[moved];
+    put_apart(f, s, written, moved);
+    m->n = f->lent[moved].n > LONGEST_MOVED ? (size_t)SHORTENED : f->lent[moved].n;
+    m->octets = w->octets - (m->n - 1);
+    check_pair(f, written, moved, "overlaps its first octet", is_overlap_refused(f, s));
+    m->octets = w->octets + (w->n - 1);
+    check_pair(f, written, moved, "overlaps its last octet", is_overlap_refused(f, s));
+    if (m->n <= w->n)
+        m->octets = w->octets + (w->n - m->n) / 2;
+    else
+        m->octets = w->octets - (m->n - w->n) / 2;
+    check_pair(f, written, moved, "overlaps by all of the shorter", is_overlap_refused(f, s));
+    m->octets = w->octets;
+    check_pair(f, written, moved, "overlaps from the first octet on", is_overlap_refused(f, s));
+    m->n = w->n;
+    check_pair(f, written, moved, "overlaps wholly", is_overlap_refused(f, s));
+}
+
+/* Whether the checked form answers, and leaves all octets, as the call itself, where two slices lie
+ * first and the second of them is perhaps another. */
+static int is_the_same(const struct form *f, size_t first, size_t second,
+                       const struct slice *instead, uint64_t *answer)
+{
+    struct slice s[MOST_LENT];
+    put_adjoining(f, s, first, second);
+    if (instead)
+        s[second] = *instead;
+    *answer = f->call(s);
+    memcpy(other, large, sizeof large);
+    put_adjoining(f, s, first, second);
+    if (instead)
+        s[second] = *instead;
+    return f->checked(s) == *answer && memcmp(other, large, sizeof large) == 0;
+}
+
+static void adjoining(const struct form *f, size_t written, size_t another)
+{
+    uint64_t answer;
+    int holds = is_the_same(f, written, another, NULL, &answer);
+    check_pair(f, written, another, "adjoins behind it", holds && klumdray_number(answer) == 0);
+    holds = is_the_same(f, another, written, NULL, &answer);
+    check_pair(f, written, another, "adjoins before it", holds && klumdray_number(answer) == 0);
+}
+
+/* An empty slice at the front of another, within it, behind it and null. */
+static void empty_beside(const struct form *f, size_t one, size_t empty)
+{
+    struct slice none = {NULL, 0};
+    uint64_t answer;
+    int holds = is_the_same(f, one, empty, &none, &answer);
+    none.octets = large;
+    holds &= is_the_same(f, one, empty, &none, &answer);
+    none.octets = large + 1;
+    holds &= is_the_same(f, one, empty, &none, &answer);
+    none.octets = large + f->lent[one].n;
+    holds &= is_the_same(f, one, empty, &none, &answer);
+    check_pair(f, one, empty, "is empty beside it", holds);
+}
+
+static void checked_forms(void)
+{
+    size_t i, written, another;
+    for (i = 0; i < sizeof FORMS / sizeof FORMS[0]; i++) {
+        const struct form *f = &FORMS[i];
+        for (written = 0; written < f->count; written++)
+            for (another = 0; another < f->count; another++) {
+                if (written == another || !f->lent[written].is_written || f->lent[another].n == 0)
+                    continue;
+                overlapping(f, written, another);
+                adjoining(f, written, another);
+                empty_beside(f, written, another);
+                empty_beside(f, another, written);
+            }
+    }
 }
 
 int main(void)
@@ -695,6 +1124,11 @@ int main(void)
     traces_with_tables();
     refused_sites();
     reasons();
+    wide_numbers_of_writers();
+    wide_sides();
+    wide_numbers_of_queries();
+    overlaps();
+    checked_forms();
     printf("%u passed, %u failed\n", passed, failed);
     return failed == 0 ? 0 : 1;
 }
