@@ -1,6 +1,6 @@
 //! cEMI L_Data request, confirmation and indication.
 
-use std::fmt;
+use core::fmt;
 
 use crate::answer::{written, Reading};
 use crate::{raw, Meaning, Refusal};

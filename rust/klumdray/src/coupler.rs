@@ -1,7 +1,7 @@
 //! One coupler step: a frame received from one side is acknowledged or not, forwarded to the other
 //! side or not, and remembered.
 
-use std::fmt;
+use core::fmt;
 
 use crate::answer::Step;
 use crate::{raw, tp1, Refusal};

@@ -12,6 +12,7 @@
 //! assert_eq!(frame.payload(), [0x00, 0x80, 0x56, 0x78, 0x9a]);
 //! # Ok::<(), klumdray::Refusal>(())
 //! ```
+#![no_std]
 #![deny(unsafe_code)]
 #![deny(missing_docs)]
 

@@ -1,4 +1,4 @@
-use std::fmt;
+use core::fmt;
 
 /// A refusal, known by its number in document 01's table.
 ///
@@ -126,4 +126,4 @@ impl fmt::Display for Refusal {
     }
 }
 
-impl std::error::Error for Refusal {}
+impl core::error::Error for Refusal {}

@@ -1,7 +1,7 @@
 //! Sites and the tracer: the lines that a telegram reaches from its starting line, and why it does
 //! not reach another.
 
-use std::fmt;
+use core::fmt;
 
 use crate::answer::{self, Trace};
 use crate::coupler::Side;

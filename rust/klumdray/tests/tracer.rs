@@ -54,7 +54,7 @@ fn compare_site(
     plan: &Plan<'_>,
 ) -> Result<(), String> {
     let site = plan.site();
-    let asks_every_line = comparison.sites().is_multiple_of(SITES_FOR_EVERY_LINE);
+    let asks_every_line = comparison.sites() % SITES_FOR_EVERY_LINE == 0;
     for _ in 0..TRACES_OF_A_SITE {
         let query = plan.query(generator);
         let room = match generator.below(16) {

@@ -91,7 +91,7 @@ fn setting(octets: &[u8]) -> Setting {
     let &[line, d0, d1, d2, d3, u0, u1, u2, u3, side, medium, ref groups @ ..] = octets else {
         panic!("too short a setting: {octets:02X?}");
     };
-    assert!(side <= 1 && medium <= 1 && groups.len().is_multiple_of(2));
+    assert!(side <= 1 && medium <= 1 && groups.len() % 2 == 0);
     Setting {
         line,
         codes: [[d0, d1, d2, d3], [u0, u1, u2, u3]],

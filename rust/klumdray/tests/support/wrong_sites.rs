@@ -23,7 +23,7 @@ fn is_wrong_store(site: &Site<'_>) -> bool {
 /// The record that a refusal is about, between those before it and those behind it; none where a
 /// store or the length is refused.
 fn refused_record<'a>(site: &Site<'a>) -> Option<[&'a [u8]; 3]> {
-    if is_wrong_store(site) || !site.records.len().is_multiple_of(RECORD) {
+    if is_wrong_store(site) || site.records.len() % RECORD != 0 {
         return None;
     }
     let is_refused = |end: usize| {
@@ -65,7 +65,7 @@ fn stores_before_room(query: &Query, site: &Site<'_>, room: &mut [u8]) -> u64 {
 
 fn length_before_stores(query: &Query, site: &Site<'_>, room: &mut [u8]) -> u64 {
     match reference_trace(query, site, room) {
-        18 if !site.records.len().is_multiple_of(RECORD) => 16,
+        18 if site.records.len() % RECORD != 0 => 16,
         answer => answer,
     }
 }

@@ -13,6 +13,7 @@ const NO_TABLE: u8 = 0xff;
 pub const ROWS: [usize; 2] = [3, 7];
 
 /// The listed lines of an answer, three octets each; none of a refusal.
+#[allow(clippy::incompatible_msrv)] // of the workspace's 1.88, as the reference that tests need
 fn entries(room: &mut [u8], answer: u64) -> &mut [[u8; 3]] {
     let (places, _) = room.as_chunks_mut();
     &mut places[..listed(answer)]
