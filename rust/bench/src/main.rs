@@ -36,16 +36,10 @@ fn print_introduction() {
         "filter table; its size is the frame's on TP1. Trace and why are of a site with all 255"
     );
     println!("couplers and 32 filter tables; the reference floods it from line to line.");
-    match klumdray::LINKED {
-        "staticlib" => {}
-        "native" => {
-            println!(
-                "This machine is not x86-64: the library's own LLVM module was compiled for it."
-            );
-        }
-        _ => {
-            println!("NOT A MEASUREMENT: the library's code is for x86-64 and runs emulated here.")
-        }
+    if klumdray::LINKED == "emulated" {
+        println!("NOT A MEASUREMENT: the library's code is for x86-64 and runs emulated here.");
+    } else if cfg!(not(target_arch = "x86_64")) {
+        println!("This machine is not x86-64: the library's own LLVM module was compiled for it.");
     }
     println!();
     measure::print_heading();

@@ -30,7 +30,9 @@ pub mod tracer;
 pub use meaning::Meaning;
 pub use refusal::Refusal;
 
-/// Which build of the proved library is linked: `staticlib` (x86-64), `emulated` or `native`.
+/// Which build of the proved library is linked: the last part of the path of the folder that it lies
+/// in. In its repository that is `staticlib` on x86-64 and `emulated` elsewhere, `native` for
+/// benchmarks there.
 pub const LINKED: &str = env!("KLUMDRAY_LINKED");
 
 /// The check octet: the ones' complement of the exclusive or of all octets given.
