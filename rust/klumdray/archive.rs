@@ -131,6 +131,7 @@ pub fn library_for(target: &str) -> Option<&'static str> {
         "wasm32" | "wasm32v1" => "wasm32",
         "thumbv6m" => "cortex-m0",
         "thumbv7m" => "cortex-m3",
+        "thumbv7em" if target.ends_with("hf") => "cortex-m4f",
         "thumbv7em" => "cortex-m4",
         "riscv32imc" | "riscv32imac" | "riscv32imafc" => "rv32imc",
         _ => return None,

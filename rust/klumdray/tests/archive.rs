@@ -185,7 +185,7 @@ fn each_target_has_its_library() {
         ("thumbv6m-none-eabi", Some("cortex-m0")),
         ("thumbv7m-none-eabi", Some("cortex-m3")),
         ("thumbv7em-none-eabi", Some("cortex-m4")),
-        ("thumbv7em-none-eabihf", Some("cortex-m4")),
+        ("thumbv7em-none-eabihf", Some("cortex-m4f")),
         ("riscv32imc-unknown-none-elf", Some("rv32imc")),
         ("riscv32imac-unknown-none-elf", Some("rv32imc")),
         ("riscv32i-unknown-none-elf", None),
