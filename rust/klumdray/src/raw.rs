@@ -140,7 +140,7 @@ macro_rules! call_tracer {
     };
 }
 
-/// The check octet of the octets given.
+/// The check octet of the octets given, as a number from 0 to 255.
 ///
 /// ```
 /// assert_eq!(klumdray::raw::check_octet(&[0x0f]), 0xf0);

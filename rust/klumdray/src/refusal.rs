@@ -8,6 +8,8 @@ use core::fmt;
 /// assert_eq!(refusal, Refusal::ANOTHER_KIND);
 /// assert_eq!(refusal.number(), 2);
 /// assert_eq!(refusal.to_string(), "refused 2: TP1 control octet of another kind");
+/// let error: Box<dyn std::error::Error> = refusal.into();
+/// assert!(error.is::<Refusal>());
 /// ```
 #[derive(Clone, Copy, Debug, PartialEq, Eq, PartialOrd, Ord, Hash)]
 pub struct Refusal(u8);

@@ -37,6 +37,31 @@ fn every_call_has_an_example() {
     assert!(calls >= 33, "only {calls} public functions found");
 }
 
+/// A source without its comments.
+fn code(source: &str) -> String {
+    let lines = source
+        .lines()
+        .map(|line| line.split("//").next().unwrap_or(""));
+    lines.collect::<Vec<_>>().join("\n")
+}
+
+#[test]
+fn the_bindings_are_for_boards_too() {
+    let folder = Path::new(env!("CARGO_MANIFEST_DIR")).join("src");
+    let root = fs::read_to_string(folder.join("lib.rs")).unwrap();
+    assert!(code(&root).contains("#![no_std]"));
+    for entry in fs::read_dir(folder).unwrap() {
+        let path = entry.unwrap().path();
+        let source = code(&fs::read_to_string(&path).unwrap());
+        let words: Vec<&str> = source
+            .split(|c: char| !c.is_alphanumeric() && c != '_')
+            .collect();
+        for word in ["std", "alloc"] {
+            assert!(!words.contains(&word), "{}: {word}", path.display());
+        }
+    }
+}
+
 /// A number's type in Rust.
 fn number(c: &str) -> &str {
     match c {
