@@ -1,19 +1,22 @@
--- A writer of the surface is the inner writer behind a test of the flags: said once for every format.
-use Prim.Native.Nat.{ℕ, _^_, _≤_, _<_}
+-- A writer of the surface is the inner writer behind a test whether the numbers fit: said once for every format.
+use Prim.Native.Nat.{ℕ, _%_, _^_, _≤_, _<_}
 use mathlib.Core.Bool.{Bool, true, false, cond, _&&_}
 use mathlib.Core.List.{List}
 use mathlib.Core.Path.{_≡_, sym, ap, _∙_}
 use native.Mathlib.Omega.{arith}
-use lib.Dec.{eqb}
+use lib.Dec.{ltb, eqb}
 use lib.ListN.{length}
+use borrow.Author.Tests.{ltb-true}
+use Rattle.cemi.specs.declared.Message.{Message}
 use Rattle.frame.proofs.Writing.{unranged-iff, put-iff}
 use Rattle.frame.specs.Writing.{written, roomAfter, Wrote}
 use Rattle.frame.specs.declared.Meaning.{Meaning}
 use Rattle.frame.specs.declared.Refusal.the-variants.{OutOfRange}
 use Rattle.frame.specs.declared.Written.{Written}
-use Rattle.klumdray.specs.Numbers.{flagsOf, meaningNumber, codeNumber, writtenNumber, WroteNumber}
+use Rattle.klumdray.specs.Numbers.{flagsOf, meaningNumber, codeNumber, areFlags, areOctets, areWords, areNumbers, areMarks, meaningFrom, messageFrom, writtenNumber, WroteNumber}
 use Rattle.klumdray.specs.Stages.{Sized}
 use Rattle.klumdray.specs.Traces.{TracedThrough}
+use Rattle.octets.proofs.Truth.{and-true}
 use Rattle.octets.proofs.Weigh.{weigh-most}
 use Rattle.site.specs.Stores.{Stores}
 use Rattle.tracer.specs.declared.Query.{Query}
@@ -26,20 +29,44 @@ sized {ranged} {octets} {room} (Put n) x h =
     omega (arith, h (e .0))
 sized (Unwritten r) x h = tt
 
-pub wrote-number : {flags ranged : Bool} {octets room after : List ℕ} {r : ℕ} (w : Written)
-    → flags ≡ true → Wrote ranged octets room w after → r ≡ writtenNumber w → WroteNumber (flags && ranged) octets room r after
-wrote-number {flags} {ranged} {octets} {room} w f x e =
-    let a : w ≡ written (flags && ranged) octets room = rw f (x .answered) in
+pub wrote-number : {fit ranged : Bool} {octets room after : List ℕ} {r : ℕ} (w : Written)
+    → fit ≡ true → Wrote ranged octets room w after → r ≡ writtenNumber w → WroteNumber (fit && ranged) octets room r after
+wrote-number {fit} {ranged} {octets} {room} w f x e =
+    let a : w ≡ written (fit && ranged) octets room = rw f (x .answered) in
     record { answered = e ∙ ap writtenNumber a; left = x .left ∙ ap (λ (v : Written). roomAfter v octets room) a }
 
--- a test of the flags as the code makes it
-pub tested : {flags flag b : Bool} (marks : Bool) → flag ≡ flags → flag && marks ≡ b → flags && marks ≡ b
-tested marks e h = rw (← e) h
-
-pub flags-refused : (flags ranged : Bool) (octets room : List ℕ) → flags ≡ false → WroteNumber (flags && ranged) octets room 14 room
-flags-refused flags ranged octets room f =
-    let a : written (flags && ranged) octets room ≡ Unwritten OutOfRange = unranged-iff (flags && ranged) octets room .1 (rw f) in
+pub unfit-refused : (fit ranged : Bool) (octets room : List ℕ) → fit ≡ false → WroteNumber (fit && ranged) octets room 14 room
+unfit-refused fit ranged octets room f =
+    let a : written (fit && ranged) octets room ≡ Unwritten OutOfRange = unranged-iff (fit && ranged) octets room .1 (rw f) in
     record { answered = sym (ap writtenNumber a); left = sym (ap (λ (v : Written). roomAfter v octets room) a) }
+
+-- the tests as the code makes them
+pub tested : {flags octets words flags′ octets′ words′ b : Bool} → flags ≡ flags′ → octets ≡ octets′ → words ≡ words′ → flags && octets && words ≡ b → flags′ && octets′ && words′ ≡ b
+tested f o w h = rw (← f, ← o, ← w) h
+
+pub tested-marks : {flags octets words marks flags′ octets′ words′ marks′ b : Bool} → flags ≡ flags′ → octets ≡ octets′ → words ≡ words′ → marks ≡ marks′ → flags && octets && words && marks ≡ b → flags′ && octets′ && words′ && marks′ ≡ b
+tested-marks f o w m h = rw (← f, ← o, ← w, ← m) h
+
+-- a number that fits is its own remainder: what the inner writer is handed is what the caller gives
+
+pub octet-kept : (n : ℕ) → ltb n 256 ≡ true → n % 256 ≡ n
+octet-kept n e = omega (arith, ltb-true n 256 e)
+
+pub word-kept : (n : ℕ) → ltb n 65536 ≡ true → n % 65536 ≡ n
+word-kept n e = omega (arith, ltb-true n 65536 e)
+
+pub meaning-kept : (extended first priority source group destination count : ℕ) {m : Meaning} → areNumbers extended first priority source group destination count ≡ true
+    → m ≡ meaningFrom extended first (priority % 256) (source % 65536) group (destination % 65536) (count % 256) → m ≡ meaningFrom extended first priority source group destination count
+unfolding areOctets areWords
+meaning-kept extended first priority source group destination count e h =
+    let both = and-true (areFlags extended first group && areOctets priority count) (areWords source destination) e in
+    let octets = and-true (ltb priority 256) (ltb count 256) (and-true (areFlags extended first group) (areOctets priority count) (both .0) .1) in
+    let words = and-true (ltb source 65536) (ltb destination 65536) (both .1) in
+    rw (octet-kept priority (octets .0), octet-kept count (octets .1), word-kept source (words .0), word-kept destination (words .1)) at h
+
+pub message-kept : (code error : ℕ) {m : Meaning} {x : Message} → areMarks code error ≡ true → x ≡ messageFrom (code % 256) error m → x ≡ messageFrom code error m
+unfolding areMarks
+message-kept code error e h = rw (octet-kept code (and-true (ltb code 256) (ltb error 2) e .0)) at h
 
 -- two outcomes that the contract allows coincide
 pub wrote-number-one : {ranged : Bool} {octets room : List ℕ} {r₁ r₂ : ℕ} {a₁ a₂ : List ℕ}

@@ -65,12 +65,12 @@ module _ {ranged : Bool} {octets room : List ℕ} {answer : ℕ} {after : List �
       go (Refused r) e = w .left ∙ ap (λ (v : Written). roomAfter v octets room) e
 
 -- each format's frame, where the numbers are in range
-pub tp1-most : (flags : Bool) (m : Meaning) (p : List ℕ) → flags && inRange m (length p) ≡ true → length (tp1Octets m p) ≤ 270
-tp1-most flags m p e = omega (arith, octets-most m p (and-true flags (inRange m (length p)) e .1))
+pub tp1-most : (fit : Bool) (m : Meaning) (p : List ℕ) → fit && inRange m (length p) ≡ true → length (tp1Octets m p) ≤ 270
+tp1-most fit m p e = omega (arith, octets-most m p (and-true fit (inRange m (length p)) e .1))
 
-module _ (flags : Bool) (codes : Codes) (x : Message) (p : List ℕ) (e : flags && messageInRange codes x (length p) ≡ true) where
+module _ (fit : Bool) (codes : Codes) (x : Message) (p : List ℕ) (e : fit && messageInRange codes x (length p) ≡ true) where
   payload : length p ≤ 255
-  payload = most-payload (x .meaning) (length p) (message-ranges codes x (length p) (and-true flags (messageInRange codes x (length p)) e .1) .meaning)
+  payload = most-payload (x .meaning) (length p) (message-ranges codes x (length p) (and-true fit (messageInRange codes x (length p)) e .1) .meaning)
 
   pub cemi-most : length (plain x p) ≤ 270
   cemi-most = omega (arith, length-plain x p, payload)

@@ -61,9 +61,25 @@ cemiAnswered s = cemiNumber (readCemi All s) (length (cemiPayload (readCemi All 
 abbrev pub routingAnswered : List ℕ → ℕ
 routingAnswered s = cemiNumber (readRouting s) (length (routedPayload (readRouting s) s))
 
--- format, repeat flag and AT are given as 0 or 1
+-- "extended 0, 1   first_sending 0, 1   .. group 0, 1"
 unfoldable pub areFlags : ℕ → ℕ → ℕ → Bool
 areFlags extended first group = ltb extended 2 && ltb first 2 && ltb group 2
+
+-- "priority 0 to 3   .. count 0 to 7" fit one octet: the inner writer, which takes no more, tests the ranges
+unfoldable pub areOctets : ℕ → ℕ → Bool
+areOctets priority count = ltb priority 256 && ltb count 256
+
+-- "source, destination 0000h to FFFFh"
+unfoldable pub areWords : ℕ → ℕ → Bool
+areWords source destination = ltb source 65536 && ltb destination 65536
+
+-- the numbers of a frame, as the caller gives them: "a number .. outside its range (14)"
+abbrev pub areNumbers : ℕ → ℕ → ℕ → ℕ → ℕ → ℕ → ℕ → Bool
+areNumbers extended first priority source group destination count = areFlags extended first group && areOctets priority count && areWords source destination
+
+-- "code 11h, 2Eh, 29h" fits one octet: the inner writer tests which; "error_mark 0, 1", of which that writer tests where it may be 1
+unfoldable pub areMarks : ℕ → ℕ → Bool
+areMarks code error = ltb code 256 && ltb error 2
 
 abbrev pub meaningFrom : ℕ → ℕ → ℕ → ℕ → ℕ → ℕ → ℕ → Meaning
 meaningFrom extended first priority source group destination count = record {
@@ -89,12 +105,12 @@ pub record WroteNumber (ranged : Bool) (octets room : List ℕ) (answer : ℕ) (
   pub answered : answer ≡ writtenNumber (written ranged octets room)
   pub left : after ≡ roomAfter (written ranged octets room) octets room
 
--- each format's writer: the flags are flags, and the inner writer's numbers are in range
+-- each format's writer: the numbers fit, and the inner writer's ranges hold
 abbrev pub WroteTp1 : Bool → Meaning → List ℕ → List ℕ → ℕ → List ℕ → Type 0
-WroteTp1 flags m payload room answer after = WroteNumber (flags && inRange m (length payload)) (tp1Octets m payload) room answer after
+WroteTp1 fit m payload room answer after = WroteNumber (fit && inRange m (length payload)) (tp1Octets m payload) room answer after
 
 abbrev pub WroteCemi : Bool → Message → List ℕ → List ℕ → ℕ → List ℕ → Type 0
-WroteCemi flags x payload room answer after = WroteNumber (flags && messageInRange All x (length payload)) (plain x payload) room answer after
+WroteCemi fit x payload room answer after = WroteNumber (fit && messageInRange All x (length payload)) (plain x payload) room answer after
 
 abbrev pub WroteRouting : Bool → Message → List ℕ → List ℕ → ℕ → List ℕ → Type 0
-WroteRouting flags x payload room answer after = WroteNumber (flags && messageInRange IndicationOnly x (length payload)) (routingOctets x payload) room answer after
+WroteRouting fit x payload room answer after = WroteNumber (fit && messageInRange IndicationOnly x (length payload)) (routingOctets x payload) room answer after

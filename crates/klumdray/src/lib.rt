@@ -6,20 +6,19 @@ mod traces;
 ghost use mathlib.Core.Path.{_≡_};
 ghost use mathlib.Core.Bool.{_&&_};
 ghost use Rattle.octets.specs.Check.{checkOctet};
-ghost use lib.Dec.{ltb};
 ghost use Rattle.site.specs.Stores.{stores};
 ghost use Rattle.tracer.specs.Query.{queryOf};
 ghost use Rattle.tracer.specs.Why.{answerWhy};
 ghost use Rattle.klumdray.specs.Block.{couplerSet, lentRight, SteppedThrough};
-ghost use Rattle.klumdray.specs.Numbers.{tp1Answered, cemiAnswered, routingAnswered, areFlags, meaningFrom, messageFrom, WroteTp1, WroteCemi, WroteRouting};
+ghost use Rattle.klumdray.specs.Numbers.{tp1Answered, cemiAnswered, routingAnswered, areNumbers, areMarks, meaningFrom, messageFrom, WroteTp1, WroteCemi, WroteRouting};
 ghost use Rattle.klumdray.specs.Traces.{explanationNumber, TracedThrough};
 use cemi::Codes;
 
 #[no_mangle]
-pub extern "C" fn klumdray_check_octet(octets: &[u8]) -> u8
+pub extern "C" fn klumdray_check_octet(octets: &[u8]) -> u32
     ensures { λ r. ⌜ r ≡ checkOctet (now (octets .entry)) ⌝ }
 {
-    octets::check_octet(octets)
+    octets::check_octet(octets) as u32
 }
 
 #[no_mangle]
@@ -33,19 +32,22 @@ pub extern "C" fn klumdray_tp1_read(octets: &[u8]) -> u64
 
 #[no_mangle]
 pub extern "C" fn klumdray_tp1_write(
-    extended: u8,
-    first: u8,
-    priority: u8,
-    source: u16,
-    group: u8,
-    destination: u16,
-    count: u8,
+    extended: u32,
+    first: u32,
+    priority: u32,
+    source: u32,
+    group: u32,
+    destination: u32,
+    count: u32,
     payload: &[u8],
     room: &mut [u8],
 ) -> u64
-    ensures { λ r. ⌜ WroteTp1 (areFlags extended first group) (meaningFrom extended first priority source group destination count) (now (payload .entry)) (now (room .entry)) r (now (room .exit)) ⌝ }
+    ensures { λ r. ⌜ WroteTp1 (areNumbers extended first priority source group destination count) (meaningFrom extended first priority source group destination count) (now (payload .entry)) (now (room .entry)) r (now (room .exit)) ⌝ }
 {
-    if numbers::are_flags(extended, first, group) {
+    let flags = numbers::are_flags(extended, first, group);
+    let octets = numbers::are_octets(priority, count);
+    let words = numbers::are_words(source, destination);
+    if flags & octets & words {
         let meaning = numbers::meaning_from(
             extended,
             first,
@@ -73,22 +75,25 @@ pub extern "C" fn klumdray_cemi_read(octets: &[u8]) -> u64
 
 #[no_mangle]
 pub extern "C" fn klumdray_cemi_write(
-    code: u8,
-    error: u8,
-    extended: u8,
-    first: u8,
-    priority: u8,
-    source: u16,
-    group: u8,
-    destination: u16,
-    count: u8,
+    code: u32,
+    error: u32,
+    extended: u32,
+    first: u32,
+    priority: u32,
+    source: u32,
+    group: u32,
+    destination: u32,
+    count: u32,
     payload: &[u8],
     room: &mut [u8],
 ) -> u64
-    ensures { λ r. ⌜ WroteCemi (areFlags extended first group && ltb error 2) (messageFrom code error (meaningFrom extended first priority source group destination count)) (now (payload .entry)) (now (room .entry)) r (now (room .exit)) ⌝ }
+    ensures { λ r. ⌜ WroteCemi (areNumbers extended first priority source group destination count && areMarks code error) (messageFrom code error (meaningFrom extended first priority source group destination count)) (now (payload .entry)) (now (room .entry)) r (now (room .exit)) ⌝ }
 {
-    let flags = numbers::are_flags(extended, first, group) & (error < 2);
-    if flags {
+    let flags = numbers::are_flags(extended, first, group);
+    let octets = numbers::are_octets(priority, count);
+    let words = numbers::are_words(source, destination);
+    let marks = numbers::are_marks(code, error);
+    if flags & octets & words & marks {
         let meaning = numbers::meaning_from(
             extended,
             first,
@@ -117,22 +122,25 @@ pub extern "C" fn klumdray_routing_read(octets: &[u8]) -> u64
 
 #[no_mangle]
 pub extern "C" fn klumdray_routing_write(
-    code: u8,
-    error: u8,
-    extended: u8,
-    first: u8,
-    priority: u8,
-    source: u16,
-    group: u8,
-    destination: u16,
-    count: u8,
+    code: u32,
+    error: u32,
+    extended: u32,
+    first: u32,
+    priority: u32,
+    source: u32,
+    group: u32,
+    destination: u32,
+    count: u32,
     payload: &[u8],
     room: &mut [u8],
 ) -> u64
-    ensures { λ r. ⌜ WroteRouting (areFlags extended first group && ltb error 2) (messageFrom code error (meaningFrom extended first priority source group destination count)) (now (payload .entry)) (now (room .entry)) r (now (room .exit)) ⌝ }
+    ensures { λ r. ⌜ WroteRouting (areNumbers extended first priority source group destination count && areMarks code error) (messageFrom code error (meaningFrom extended first priority source group destination count)) (now (payload .entry)) (now (room .entry)) r (now (room .exit)) ⌝ }
 {
-    let flags = numbers::are_flags(extended, first, group) & (error < 2);
-    if flags {
+    let flags = numbers::are_flags(extended, first, group);
+    let octets = numbers::are_octets(priority, count);
+    let words = numbers::are_words(source, destination);
+    let marks = numbers::are_marks(code, error);
+    if flags & octets & words & marks {
         let meaning = numbers::meaning_from(
             extended,
             first,

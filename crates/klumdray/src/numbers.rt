@@ -1,7 +1,7 @@
 // Answers as the numbers that cross the surface, and a caller's numbers as a meaning.
 ghost use mathlib.Core.Path.{_≡_};
-ghost use Prim.Native.Nat.{_<_};
-ghost use Rattle.klumdray.specs.Numbers.{flagsOf, meaningNumber, tp1Number, codeNumber, messageNumber, cemiNumber, areFlags, meaningFrom, messageFrom, writtenNumber};
+ghost use Prim.Native.Nat.{_%_, _<_};
+ghost use Rattle.klumdray.specs.Numbers.{flagsOf, meaningNumber, tp1Number, codeNumber, messageNumber, cemiNumber, areFlags, areOctets, areWords, areMarks, meaningFrom, messageFrom, writtenNumber};
 ghost use Rattle.klumdray.specs.Stages.{Sized};
 use cemi::CemiAnswer;
 use cemi::Message;
@@ -70,39 +70,70 @@ pub(crate) fn of_cemi(answer: CemiAnswer, payload: usize) -> u64
     }
 }
 
-pub(crate) fn are_flags(extended: u8, first: u8, group: u8) -> bool
+// A number in so many bits that the calls inside take: itself, where it fits.
+pub(crate) fn octet_of(number: u32) -> u8
+    ensures { λ r. ⌜ r ≡ number % 256 ⌝ }
+{
+    (number % 256) as u8
+}
+
+pub(crate) fn word_of(number: u32) -> u16
+    ensures { λ r. ⌜ r ≡ number % 65536 ⌝ }
+{
+    (number % 65536) as u16
+}
+
+pub(crate) fn are_flags(extended: u32, first: u32, group: u32) -> bool
     ensures { λ r. ⌜ r ≡ areFlags extended first group ⌝ }
 {
     (extended < 2) & (first < 2) & (group < 2)
 }
 
+pub(crate) fn are_octets(priority: u32, count: u32) -> bool
+    ensures { λ r. ⌜ r ≡ areOctets priority count ⌝ }
+{
+    (priority < 256) & (count < 256)
+}
+
+pub(crate) fn are_words(source: u32, destination: u32) -> bool
+    ensures { λ r. ⌜ r ≡ areWords source destination ⌝ }
+{
+    (source < 65536) & (destination < 65536)
+}
+
+pub(crate) fn are_marks(code: u32, error: u32) -> bool
+    ensures { λ r. ⌜ r ≡ areMarks code error ⌝ }
+{
+    (code < 256) & (error < 2)
+}
+
 pub(crate) fn meaning_from(
-    extended: u8,
-    first: u8,
-    priority: u8,
-    source: u16,
-    group: u8,
-    destination: u16,
-    count: u8,
+    extended: u32,
+    first: u32,
+    priority: u32,
+    source: u32,
+    group: u32,
+    destination: u32,
+    count: u32,
 ) -> Meaning
-    ensures { λ r. ⌜ r ≡ meaningFrom extended first priority source group destination count ⌝ }
+    ensures { λ r. ⌜ r ≡ meaningFrom extended first (priority % 256) (source % 65536) group (destination % 65536) (count % 256) ⌝ }
 {
     Meaning {
         extended: extended == 1,
         first: first == 1,
-        priority,
-        source,
+        priority: octet_of(priority),
+        source: word_of(source),
         group: group == 1,
-        destination,
-        count,
+        destination: word_of(destination),
+        count: octet_of(count),
     }
 }
 
-pub(crate) fn message_from(code: u8, error: u8, meaning: Meaning) -> Message
-    ensures { λ r. ⌜ r ≡ messageFrom code error meaning ⌝ }
+pub(crate) fn message_from(code: u32, error: u32, meaning: Meaning) -> Message
+    ensures { λ r. ⌜ r ≡ messageFrom (code % 256) error meaning ⌝ }
 {
     Message {
-        code,
+        code: octet_of(code),
         error: error == 1,
         meaning,
     }

@@ -105,23 +105,23 @@ writes-back : {ranged : Bool} {octets room : List ℕ} {size answer : ℕ} {afte
 writes-back most e w = record { told = written-told most w; whole = λ z. written-size most w z ∙ e; stays = written-leaves most w }
 
 -- "payload length + 7 standard, + 8 extended"
-pub tp1-write-back : (flags : Bool) (m : Meaning) (p room : List ℕ) (answer : ℕ) (after : List ℕ) → WroteTp1 flags m p room answer after
-    → WritesBack (flags && inRange m (length p)) (tp1Octets m p) room (length p + cond (m .extended) 8 7) answer after
-tp1-write-back flags m p room answer after = writes-back (tp1-most flags m p) (length-octets m p ∙ go (m .extended))
+pub tp1-write-back : (fit : Bool) (m : Meaning) (p room : List ℕ) (answer : ℕ) (after : List ℕ) → WroteTp1 fit m p room answer after
+    → WritesBack (fit && inRange m (length p)) (tp1Octets m p) room (length p + cond (m .extended) 8 7) answer after
+tp1-write-back fit m p room answer after = writes-back (tp1-most fit m p) (length-octets m p ∙ go (m .extended))
   where
     go : (b : Bool) → headOf b + length p + 1 ≡ length p + cond b 8 7
     go true = omega arith
     go false = omega arith
 
 -- "payload length + 9"
-pub cemi-write-back : (flags : Bool) (x : Message) (p room : List ℕ) (answer : ℕ) (after : List ℕ) → WroteCemi flags x p room answer after
-    → WritesBack (flags && messageInRange All x (length p)) (plain x p) room (length p + 9) answer after
-cemi-write-back flags x p room answer after = writes-back (cemi-most flags All x p) (length-plain x p ∙ omega arith)
+pub cemi-write-back : (fit : Bool) (x : Message) (p room : List ℕ) (answer : ℕ) (after : List ℕ) → WroteCemi fit x p room answer after
+    → WritesBack (fit && messageInRange All x (length p)) (plain x p) room (length p + 9) answer after
+cemi-write-back fit x p room answer after = writes-back (cemi-most fit All x p) (length-plain x p ∙ omega arith)
 
 -- "payload length + 15"
-pub routing-write-back : (flags : Bool) (x : Message) (p room : List ℕ) (answer : ℕ) (after : List ℕ) → WroteRouting flags x p room answer after
-    → WritesBack (flags && messageInRange IndicationOnly x (length p)) (routingOctets x p) room (length p + 15) answer after
-routing-write-back flags x p room answer after = writes-back (routing-most flags IndicationOnly x p) (length-routing x p ∙ omega arith)
+pub routing-write-back : (fit : Bool) (x : Message) (p room : List ℕ) (answer : ℕ) (after : List ℕ) → WroteRouting fit x p room answer after
+    → WritesBack (fit && messageInRange IndicationOnly x (length p)) (routingOctets x p) room (length p + 15) answer after
+routing-write-back fit x p room answer after = writes-back (routing-most fit IndicationOnly x p) (length-routing x p ∙ omega arith)
 
 -- "octets forwarded, the first of the room, at most 270": of every step ..
 pub at-most-270 : (k : Coupler) (m m′ : Memory) (s room room′ : List ℕ) (outcome : Outcome) → Octets s → Did k m s room outcome m′ room′ → outcome .forwarded ≤ 270

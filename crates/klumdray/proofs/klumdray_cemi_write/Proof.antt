@@ -1,9 +1,10 @@
--- The inner writer behind the test of the flags: both arms are laws of `Surface`.
+-- The inner writer behind the tests whether the numbers fit: both arms are laws of `Surface`.
 use mathlib.Core.Bool.{true}
 use borrow.Author.Needs.{needs}
 use Rattle.cemi.specs.declared.Codes.the-variants.{All}
-use Rattle.klumdray.proofs.Surface.{sized, tested, wrote-number, flags-refused}
+use Rattle.klumdray.proofs.Surface.{sized, wrote-number, unfit-refused, tested-marks, meaning-kept, message-kept}
 use Rattle.klumdray.proofs.WriterNumbers.{cemi-most}
+use Rattle.octets.proofs.Truth.{and-true}
 use Rattle.klumdray.proofs.klumdray_cemi_write.Statement.{statement}
 use Rattle.klumdray.proofs.klumdray_cemi_write.Tie as tie
 
@@ -15,12 +16,25 @@ returns c =
     let write = c .before .before .before .write in
     let message-from = c .before .before .before .before .before .message-from in
     let back = c .before .before .before .before .before .before in
-    let flags = tested _ (back .before .before .are-flags .ensures) (back .before .if1 .taken) in
-    wrote-number _ flags (rw (message-from .ensures, back .meaning-from .ensures) at (write .ensures)) (c .of-written .ensures)
+    let if1 = back .before .if1 in
+    let tests = back .before .before in
+    let are-words = tests .before .are-words in
+    let are-octets = tests .before .before .are-octets in
+    let are-flags = tests .before .before .before .are-flags in
+    let fit = tested-marks (are-flags .ensures) (are-octets .ensures) (are-words .ensures) (tests .are-marks .ensures) (if1 .taken) in
+    let both = and-true _ _ fit in
+    let message = message-kept _ _ (both .1) (message-from .ensures) in
+    let meaning = meaning-kept _ _ _ _ _ _ _ (both .0) (back .meaning-from .ensures) in
+    let written = rw (message, meaning) at (write .ensures) in
+    wrote-number _ fit written (c .of-written .ensures)
 
 returns-2 : tie.Need-returns-2
-returns-2 c = flags-refused _ _ _ _ (tested _ (c .before .are-flags .ensures) (c .if1 .left))
+returns-2 c =
+    let are-words = c .before .before .are-words in
+    let are-octets = c .before .before .before .are-octets in
+    let are-flags = c .before .before .before .before .are-flags in
+    unfit-refused _ _ _ _ (tested-marks (are-flags .ensures) (are-octets .ensures) (are-words .ensures) (c .before .are-marks .ensures) (c .if1 .left))
 
 pub klumdray-cemi-write-spec : {M : Type 1} → statement M
 klumdray-cemi-write-spec = tie.close (tie.spec (λ c κs. search needs) (λ c κs. search needs) (λ c κs. search needs) (λ c κs. search needs)
-    of-written-requires (λ c. search needs) returns returns-2)
+    (λ c κs. search needs) (λ c κs. search needs) (λ c κs. search needs) of-written-requires (λ c. search needs) returns returns-2)
