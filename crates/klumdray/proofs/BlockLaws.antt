@@ -1,31 +1,35 @@
 -- The block is two halves of 265 octets, each the remembered frame of a side: read out of the block, and put into it, as the step inside
 -- has it by value.
 use Prim.Native.Nat.{ℕ, _+_, _-_, _%_, _≤_}
-use mathlib.Core.Bool.{Bool, true, false, not, cond, _&&_}
+use mathlib.Core.Bool.{Bool, true, false, not, cond, _&&_, _||_}
 use mathlib.Core.List.{List, [], _∷_, _++_}
 use mathlib.Core.Path.{_≡_, refl, sym, ap, _∙_, subst}
 use native.Mathlib.Omega.{arith}
-use lib.Dec.{leb, eqb}
+use lib.Dec.{ltb, leb, eqb}
 use lib.ListN.{length, take, drop, take-append-drop, length-drop, List·getD-append}
 use lib.Seq.{length-take-le, take-all, take-append-le, drop-append-le, drop-append-add, getD-append-add, take-take, take-at, drop-at}
 use borrow.Author.Tests.{leb-true, eqb-true}
 use Rattle.coupler.proofs.StepLaws.{heard-size}
 use Rattle.coupler.specs.Memory.{kept, recalled, remembering, sideOf, rememberedOn}
-use Rattle.coupler.specs.Step.{Coupler, fromIp, Heard, heard, outcomeBy, HandedOn, memoryAfter, frame, nothing}
+use Rattle.coupler.specs.Step.{Coupler, fromIp, Heard, readBy, after, heard, outcomeBy, sentBy, HandedOn, memoryAfter, frame, nothing}
 use Rattle.coupler.specs.declared.Memory.{Memory}
 use Rattle.coupler.specs.declared.Outcome.{Outcome}
 use Rattle.frame.proofs.Numbers.{refused-number}
 use Rattle.frame.specs.declared.Meaning.{Meaning}
-use Rattle.klumdray.specs.Block.{rememberedIn, memoryIn, halfOf, blockOf, outcomeNumber, areSettings, lentRight, heardThrough, SteppedThrough}
-use Rattle.klumdray.specs.Stages.{startOf, keptIn, rememberedAt}
+use Rattle.frame.specs.declared.Refusal.{Refusal}
+use Rattle.frame.specs.declared.Refusal.the-variants.{WrongSetting, NoTable, OutOfRange}
+use Rattle.frame.specs.declared.Verdict.the-variants.{Refuse}
+use Rattle.klumdray.specs.Block.{rememberedIn, memoryIn, halfOf, blockOf, codesIn, couplerSet, outcomeNumber, areSettings, lentRight, heardThrough, SteppedThrough}
+use Rattle.klumdray.specs.Stages.{sideOrNone, startOf, keptIn, rememberedAt}
 use Rattle.octets.proofs.Octets.{octets-take, octets-drop}
 use Rattle.octets.proofs.Room.{laid-front, laid-left, laid-right}
 use Rattle.octets.proofs.Split.{head-rest}
-use Rattle.octets.proofs.Truth.{and-true}
+use Rattle.octets.proofs.Truth.{by-cases, and-true}
 use Rattle.octets.proofs.Word.{high-word, low-word}
 use Rattle.octets.specs.Octets.{octetAt, Octets}
-use Rattle.octets.specs.Room.{laid}
+use Rattle.octets.specs.Room.{laid, over}
 use Rattle.octets.specs.Word.{wordAt, high, low}
+use Rattle.passing.specs.Settings.{areCodes, tableFits}
 
 -- one half
 
@@ -173,6 +177,48 @@ stepped k block s {room} {room′} {block′} {o} {start} {n} size ob os es en x
       left = y .left;
       memory = eb ∙ rw (y .outcome, es) (memory-block k (recalled (sideOf (memoryIn block) (k .setting .side))) block s (heard k s (length room)) size ob (λ m p e f. heard-size k s (length room) m p os e f));
     }
+
+-- a number that is no side is refused, whichever it is: by 15, 18 or 14, the first that applies
+abbrev pub unsided : List ℕ → List ℕ → Refusal
+unsided settings table =
+    cond (eqb (octetAt settings 0) 0 || not (areCodes (codesIn settings))) WrongSetting
+    (cond (not (tableFits (codesIn settings) (length table))) NoTable OutOfRange)
+
+pub unsided-heard : (settings table s : List ℕ) (room side : ℕ) → ltb side 2 ≡ false → heard (couplerSet settings side table) s room ≡ nothing (unsided settings table)
+unfolding heard
+unsided-heard settings table s room side e =
+    rw e (go (eqb (octetAt settings 0) 0 || not (areCodes (codesIn settings))) (not (tableFits (codesIn settings) (length table))))
+  where
+    h : Heard
+    h = readBy (fromIp (couplerSet settings side table)) s
+
+    go : (wrong untabled : Bool) → after (cond wrong (Refuse WrongSetting) (cond untabled (Refuse NoTable) (Refuse OutOfRange))) h ≡ nothing (cond wrong WrongSetting (cond untabled NoTable OutOfRange))
+    go true untabled = refl
+    go false true = refl
+    go false false = refl
+
+-- two couplers that refuse octets alike do the same with them
+refused-alike : (k k′ : Coupler) (block s : List ℕ) {room : List ℕ} {answer : ℕ} {block′ room′ : List ℕ} (r : Refusal) → heard k s (length room) ≡ nothing r → heard k′ s (length room) ≡ nothing r
+    → SteppedThrough true k block s room answer block′ room′ → SteppedThrough true k′ block s room answer block′ room′
+unfolding heardThrough
+refused-alike k k′ block s {room} r e e′ w =
+    let m : List ℕ = recalled (sideOf (memoryIn block) (k .setting .side)) in
+    let m′ : List ℕ = recalled (sideOf (memoryIn block) (k′ .setting .side)) in
+    record {
+      answered = w .answered ∙ ap (λ (h : Heard). outcomeNumber (outcomeBy k m s h)) e ∙ sym (ap (λ (h : Heard). outcomeNumber (outcomeBy k′ m′ s h)) e′);
+      left = w .left ∙ ap (λ (h : Heard). over (sentBy k m s h) room) e ∙ sym (ap (λ (h : Heard). over (sentBy k′ m′ s h) room) e′);
+      memory = w .memory ∙ ap (λ (h : Heard). blockOf (memoryAfter k (memoryIn block) s h)) e ∙ sym (ap (λ (h : Heard). blockOf (memoryAfter k′ (memoryIn block) s h)) e′);
+    }
+
+-- the step with the side that the code hands on is the step with the side given
+pub side-kept : (settings table block s : List ℕ) (side receiving : ℕ) {room : List ℕ} {answer : ℕ} {block′ room′ : List ℕ} → receiving ≡ sideOrNone side
+    → SteppedThrough true (couplerSet settings receiving table) block s room answer block′ room′ → SteppedThrough true (couplerSet settings side table) block s room answer block′ room′
+side-kept settings table block s side receiving {room} {answer} {block′} {room′} h w =
+    by-cases (ltb side 2)
+    (λ e. subst (λ (n : ℕ). SteppedThrough true (couplerSet settings n table) block s room answer block′ room′) (rw e at h) w)
+    (λ e.
+    let none : ltb receiving 2 ≡ false = rw (h, e) in
+    refused-alike (couplerSet settings receiving table) (couplerSet settings side table) block s (unsided settings table) (unsided-heard settings table s (length room) receiving none) (unsided-heard settings table s (length room) side e) w)
 
 -- settings or a memory of another size
 pub stepped-wrong : (k : Coupler) (block s room : List ℕ) → SteppedThrough false k block s room 14 block room

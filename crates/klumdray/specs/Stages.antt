@@ -3,11 +3,15 @@ use Prim.Native.Nat.{ℕ, _+_, _%_, _^_, _<_}
 use mathlib.Core.List.{List, [], _∷_}
 use mathlib.Core.Bool.{cond}
 use lib.ListN.{length}
-use lib.Dec.{leb, eqb}
+use lib.Dec.{ltb, leb, eqb}
 use Rattle.octets.specs.Word.{high, low, wordAt}
 use Rattle.octets.specs.Room.{laid}
 use Rattle.frame.specs.declared.Written.{Written}
 use Rattle.frame.specs.declared.Written.the-variants.{Put, Refused as Unwritten}
+
+-- the side that the step inside is handed: 2, which is none, for every number that is none
+abbrev pub sideOrNone : ℕ → ℕ
+sideOrNone side = cond (ltb side 2) side 2
 
 -- where a side's half begins, how many octets of it are the frame's, and the block with a frame put there
 abbrev pub startOf : ℕ → ℕ

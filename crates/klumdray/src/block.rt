@@ -4,7 +4,8 @@ ghost use Prim.Native.Nat.{_≤_};
 ghost use mathlib.Core.Bool.{cond};
 ghost use Rattle.coupler.specs.Step.{acknowledgementNumber};
 ghost use Rattle.klumdray.specs.Block.{areSettings, settingIn, codesIn, outcomeNumber};
-ghost use Rattle.klumdray.specs.Stages.{startOf, keptIn, rememberedAt};
+ghost use Rattle.klumdray.specs.Stages.{sideOrNone, startOf, keptIn, rememberedAt};
+use crate::numbers;
 use coupler::Acknowledgement;
 use coupler::Outcome;
 use coupler::Setting;
@@ -42,6 +43,13 @@ pub(crate) fn codes_in(settings: &[u8]) -> [[u8; 4]; 2]
         octets::octet(settings, 8),
     ];
     [down, up]
+}
+
+// A side in so many bits that the step inside takes; every number that is none is 2.
+pub(crate) fn side_of(side: u32) -> u8
+    ensures { λ r. ⌜ r ≡ sideOrNone side ⌝ }
+{
+    if side < 2 { numbers::octet_of(side) } else { 2 }
 }
 
 // Where the half of a side begins.

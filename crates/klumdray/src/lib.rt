@@ -162,7 +162,7 @@ pub extern "C" fn klumdray_routing_write(
 pub extern "C" fn klumdray_step(
     settings: &[u8],
     table: &[u8],
-    side: u8,
+    side: u32,
     memory: &mut [u8],
     octets: &[u8],
     room: &mut [u8],
@@ -171,13 +171,14 @@ pub extern "C" fn klumdray_step(
 {
     let right = block::are_settings(settings) & (memory.len() == 530);
     if right {
-        let setting = block::setting_in(settings, side);
+        let receiving = block::side_of(side);
+        let setting = block::setting_in(settings, receiving);
         let codes = block::codes_in(settings);
-        let start = block::start_of(side);
+        let start = block::start_of(receiving);
         let from = start + 2;
         let end = from + block::kept_in(memory, start);
         let outcome = coupler::hand_on(setting, codes, table, &memory[from..end], octets, room);
-        let ip = (side == 0) & (setting.medium == 1);
+        let ip = (receiving == 0) & (setting.medium == 1);
         let accepted = (outcome.number == 0) & !ip;
         block::remember_if(accepted, memory, start, octets);
         block::of_outcome(outcome)
