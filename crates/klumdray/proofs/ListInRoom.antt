@@ -14,7 +14,7 @@ use Rattle.frame.specs.declared.Verdict.the-variants.{Fine, Refuse}
 use Rattle.frame.specs.declared.Verdict.{Verdict}
 use Rattle.klumdray.proofs.TracerNumbers.{trace-told, trace-counted}
 use Rattle.klumdray.specs.Decoding.{listedLine, numberIn, linesIn, ListedAt, ListReads}
-use Rattle.klumdray.specs.Traces.{TracedThrough}
+use Rattle.klumdray.specs.Traces.{traceThroughTests, TracedThrough}
 use Rattle.octets.proofs.Truth.{by-cases}
 use Rattle.octets.specs.Octets.{octetAt}
 use Rattle.octets.specs.Room.{over}
@@ -24,7 +24,7 @@ use Rattle.tracer.specs.Lines.{Crossing, distance}
 use Rattle.tracer.specs.Query.{onArrival}
 use Rattle.tracer.specs.Listing.{crossingPasses, isListed, entry, eachBelow, countBelow, listed, linesListed}
 use Rattle.tracer.specs.declared.Query.{Query}
-use Rattle.tracer.specs.Tracing.{traceTests, listBy}
+use Rattle.tracer.specs.Tracing.{listBy}
 
 module _ (f : Crossing → Bool) (q : Query) where
   abbrev s : ℕ
@@ -143,9 +143,9 @@ module _ (f : Crossing → Bool) (q : Query) where
 module _ (st : Stores) (site : List ℕ) (q : Query) {room : List ℕ} {answer : ℕ} {room′ : List ℕ} (w : TracedThrough st site q room answer room′) where
   pub trace-list : numberIn answer ≡ 0 → ListReads (crossingPasses st site q) q answer room′
   unfolding listed linesListed
-  trace-list z = go (firstOf (traceTests st site q (length room))) refl
+  trace-list z = go (firstOf (traceThroughTests st site q (length room))) refl
     where
-      go : (v : Verdict) → firstOf (traceTests st site q (length room)) ≡ v → ListReads (crossingPasses st site q) q answer room′
+      go : (v : Verdict) → firstOf (traceThroughTests st site q (length room)) ≡ v → ListReads (crossingPasses st site q) q answer room′
       go Fine e =
           let r : room′ ≡ over (listed st site q) room = w .left ∙ ap (λ (v : Verdict). over (listBy st site q v) room) e in
           rw r (list-is (crossingPasses st site q) q answer (drop (length (listed st site q)) room) (trace-counted st site q w e .0))

@@ -1,24 +1,32 @@
--- A writer of the surface is the inner writer behind a test whether the numbers fit: said once for every format.
+-- A call of the surface is the inner call behind a test whether the numbers fit: of the writers said once for every format.
 use Prim.Native.Nat.{ℕ, _%_, _^_, _≤_, _<_}
 use mathlib.Core.Bool.{Bool, true, false, cond, _&&_}
 use mathlib.Core.List.{List}
-use mathlib.Core.Path.{_≡_, sym, ap, _∙_}
+use mathlib.Core.Path.{_≡_, refl, sym, ap, _∙_}
 use native.Mathlib.Omega.{arith}
 use lib.Dec.{ltb, eqb}
 use lib.ListN.{length}
 use borrow.Author.Tests.{ltb-true}
 use Rattle.cemi.specs.declared.Message.{Message}
 use Rattle.frame.proofs.Writing.{unranged-iff, put-iff}
+use Rattle.frame.specs.Order.{firstOf}
 use Rattle.frame.specs.Writing.{written, roomAfter, Wrote}
 use Rattle.frame.specs.declared.Meaning.{Meaning}
 use Rattle.frame.specs.declared.Refusal.the-variants.{OutOfRange}
+use Rattle.frame.specs.declared.Verdict.{Verdict}
 use Rattle.frame.specs.declared.Written.{Written}
 use Rattle.klumdray.specs.Numbers.{flagsOf, meaningNumber, codeNumber, areFlags, areOctets, areWords, areNumbers, areMarks, meaningFrom, messageFrom, writtenNumber, WroteNumber}
 use Rattle.klumdray.specs.Stages.{Sized}
-use Rattle.klumdray.specs.Traces.{TracedThrough}
+use Rattle.klumdray.specs.Traces.{tracedNumber, explanationNumber, queryFits, traceThroughTests, TracedThrough, whyThrough}
 use Rattle.octets.proofs.Truth.{and-true}
 use Rattle.octets.proofs.Weigh.{weigh-most}
+use Rattle.octets.specs.Room.{over}
 use Rattle.site.specs.Stores.{Stores}
+use Rattle.tracer.specs.Query.{queryOf}
+use Rattle.tracer.specs.Tracing.{traceTests, tracedBy, listBy, DidTrace}
+use Rattle.tracer.specs.Why.{answerWhy}
+use Rattle.tracer.specs.declared.Explanation.{Explanation}
+use Rattle.tracer.specs.declared.Traced.{Traced}
 use Rattle.tracer.specs.declared.Query.{Query}
 use Rattle.frame.specs.declared.Written.the-variants.{Put, Refused as Unwritten}
 
@@ -67,6 +75,49 @@ meaning-kept extended first priority source group destination count e h =
 pub message-kept : (code error : ℕ) {m : Meaning} {x : Message} → areMarks code error ≡ true → x ≡ messageFrom (code % 256) error m → x ≡ messageFrom code error m
 unfolding areMarks
 message-kept code error e h = rw (octet-kept code (and-true (ltb code 256) (ltb error 2) e .0)) at h
+
+-- the same of the tracer's calls
+
+pub tested-line : {fits fits′ b : Bool} (line : Bool) → fits ≡ fits′ → fits && line ≡ b → fits′ && line ≡ b
+tested-line line e h = rw (← e) h
+
+pub query-kept : (start kind destination count : ℕ) {q : Query} → queryFits (queryOf start kind destination count) ≡ true
+    → q ≡ queryOf (start % 256) (kind % 256) (destination % 65536) (count % 256) → q ≡ queryOf start kind destination count
+unfolding queryFits
+query-kept start kind destination count e h =
+    let three = and-true (ltb start 256 && ltb kind 256 && ltb destination 65536) (ltb count 256) e in
+    let two = and-true (ltb start 256 && ltb kind 256) (ltb destination 65536) (three .0) in
+    let one = and-true (ltb start 256) (ltb kind 256) (two .0) in
+    rw (octet-kept start (one .0), octet-kept kind (one .1), word-kept destination (two .1), octet-kept count (three .1)) at h
+
+-- where the numbers fit, the order is the inner call's
+pub trace-inside : (st : Stores) (site : List ℕ) (q : Query) (room : ℕ) → queryFits q ≡ true → firstOf (traceTests st site q room) ≡ firstOf (traceThroughTests st site q room)
+trace-inside st site q room f = rw f
+
+pub why-inside : (st : Stores) (site : List ℕ) (q : Query) (line : ℕ) → queryFits q && ltb line 256 ≡ true → answerWhy st site q line ≡ whyThrough st site q line
+unfolding answerWhy whyThrough
+why-inside st site q line f = rw f
+
+pub traced-fit : (st : Stores) (site : List ℕ) (q : Query) {room : List ℕ} {answer : ℕ} {traced : Traced} {room′ : List ℕ} → queryFits q ≡ true
+    → DidTrace st site q room traced room′ → answer ≡ tracedNumber traced → TracedThrough st site q room answer room′
+traced-fit st site q {room} f x e =
+    let v = trace-inside st site q (length room) f in
+    record {
+      answered = e ∙ ap tracedNumber (x .answered) ∙ ap (λ (v : Verdict). tracedNumber (tracedBy st site q v)) v;
+      left = x .left ∙ ap (λ (v : Verdict). over (listBy st site q v) room) v;
+    }
+
+pub traced-unfit : (st : Stores) (site : List ℕ) (q : Query) (room : List ℕ) → queryFits q ≡ false → TracedThrough st site q room 14 room
+unfolding tracedNumber
+traced-unfit st site q room f = record { answered = rw f refl; left = rw f refl }
+
+pub why-fit : (st : Stores) (site : List ℕ) (q : Query) (line : ℕ) {answer : ℕ} {a : Explanation} → queryFits q && ltb line 256 ≡ true
+    → a ≡ answerWhy st site q line → answer ≡ explanationNumber a → answer ≡ explanationNumber (whyThrough st site q line)
+why-fit st site q line f e h = h ∙ ap explanationNumber (e ∙ why-inside st site q line f)
+
+pub why-unfit : (st : Stores) (site : List ℕ) (q : Query) (line : ℕ) → queryFits q && ltb line 256 ≡ false → 14 ≡ explanationNumber (whyThrough st site q line)
+unfolding whyThrough
+why-unfit st site q line f = rw f refl
 
 -- two outcomes that the contract allows coincide
 pub wrote-number-one : {ranged : Bool} {octets room : List ℕ} {r₁ r₂ : ℕ} {a₁ a₂ : List ℕ}

@@ -1,14 +1,14 @@
 -- The tracer's numbers: at most 256 lines and 255 forwardings, so that nothing is cut off; and what stops a telegram is a crossing of the
 -- path, whose line and direction are below 256 and 2.
 use Prim.Native.Nat.{ℕ, zero, suc, _+_, _%_, _^_, _≤_, _<_}
-use mathlib.Core.Bool.{Bool, true, false}
+use mathlib.Core.Bool.{Bool, true, false, _&&_}
 use mathlib.Core.List.{List, [], _∷_, _++_}
 use mathlib.Core.Logic.{_↔_}
 use mathlib.Core.Path.{_≡_, refl, sym, ap, _∙_, subst}
 use native.Mathlib.Omega.{arith}
-use lib.Dec.{leb, eqb}
+use lib.Dec.{ltb, leb, eqb}
 use lib.ListN.{length, getD}
-use borrow.Author.Tests.{leb-true, eqb-true, eqb-false, not-false}
+use borrow.Author.Tests.{ltb-true, leb-true, eqb-true, eqb-false, not-false}
 use Rattle.frame.proofs.Apart.{fine-refuse, refuse-one}
 use Rattle.octets.proofs.Truth.{by-cases, and-true}
 use Rattle.passing.proofs.Answers.{passage-zero, passage-most}
@@ -24,7 +24,7 @@ use Rattle.frame.specs.Refusals.{number, lastNumber}
 use Rattle.klumdray.proofs.Bits.{Field, _holding_, packed, Fit, read-back, below}
 use Rattle.klumdray.proofs.Telling.{number-alone, tells-refused, tells-accepted}
 use Rattle.klumdray.specs.Decoding.{numberIn, linesIn, forwardingsIn, tracedNumbered, tracedFrom, explanationFrom, Tells}
-use Rattle.klumdray.specs.Traces.{tracedNumber, explanationNumber, TracedThrough}
+use Rattle.klumdray.specs.Traces.{tracedNumber, explanationNumber, queryFits, traceThroughTests, TracedThrough, whyThroughTests, whyThrough}
 use Rattle.octets.specs.Room.{over}
 use Rattle.site.specs.Stores.{Stores}
 use Rattle.site.specs.WellFormed.{isAmong}
@@ -36,8 +36,8 @@ use Rattle.tracer.specs.Lines.{Crossing, mainSide, depth, mainSides, mainSidesB
 use Rattle.tracer.specs.Listing.{crossingPasses, isListed, countBelow, linesListed, isForwarding, forwardings}
 use Rattle.tracer.specs.declared.Query.{Query}
 use Rattle.tracer.specs.Query.{isQuery}
-use Rattle.tracer.specs.Tracing.{traceTests, tracedBy, listBy}
-use Rattle.tracer.specs.Why.{whyOf, whyTests, answerWhy}
+use Rattle.tracer.specs.Tracing.{tracedBy, listBy}
+use Rattle.tracer.specs.Why.{whyOf}
 use Rattle.tracer.specs.declared.Explanation.{Explanation}
 use Rattle.tracer.specs.declared.Explanation.the-variants.{Reached, NotReached, Refused}
 use Rattle.tracer.specs.declared.Stop.{Stop}
@@ -95,6 +95,14 @@ module _ (t : Traced) (n : t .number ≤ lastNumber) (l : t .lines ≤ 256) (f :
       let field = read-back (tracedFields t) (tracedNumber t) traced-fit traced-packed in
       rw (field 0 (omega arith), field 1 (omega arith), field 2 (omega arith))
 
+-- what fits has a line for its start
+start-fits : (q : Query) → queryFits q ≡ true → q .start < 256
+unfolding queryFits
+start-fits q e =
+    let three = and-true (ltb (q .start) 256 && ltb (q .kind) 256 && ltb (q .destination) 65536) (ltb (q .count) 256) e in
+    let two = and-true (ltb (q .start) 256 && ltb (q .kind) 256) (ltb (q .destination) 65536) (three .0) in
+    ltb-true (q .start) 256 (and-true (ltb (q .start) 256) (ltb (q .kind) 256) (two .0) .0)
+
 module _ (st : Stores) (site : List ℕ) (q : Query) where
   traced-answer : (v : Verdict) → Tells 40 tracedFrom (tracedNumber (tracedBy st site q v)) (tracedNumbered (tracedBy st site q v)) (λ r. v ≡ Refuse r)
   unfolding tracedNumber
@@ -107,30 +115,31 @@ module _ (st : Stores) (site : List ℕ) (q : Query) where
       tells-refused r e refl (λ q. refuse-one) (omega arith) (ap tracedFrom (sym e) ∙ traced-decoded t (number-listed r .1) (omega arith) (omega arith))
 
   module _ {room : List ℕ} {answer : ℕ} {room′ : List ℕ} (w : TracedThrough st site q room answer room′) where
-    pub trace-told : Tells 40 tracedFrom answer (tracedNumbered (tracedBy st site q (firstOf (traceTests st site q (length room))))) (λ r. firstOf (traceTests st site q (length room)) ≡ Refuse r)
-    trace-told = rw (w .answered) (traced-answer (firstOf (traceTests st site q (length room))))
+    pub trace-told : Tells 40 tracedFrom answer (tracedNumbered (tracedBy st site q (firstOf (traceThroughTests st site q (length room))))) (λ r. firstOf (traceThroughTests st site q (length room)) ≡ Refuse r)
+    trace-told = rw (w .answered) (traced-answer (firstOf (traceThroughTests st site q (length room))))
 
-    pub trace-counted : firstOf (traceTests st site q (length room)) ≡ Fine → (linesIn answer ≡ linesListed st site q) × (forwardingsIn answer ≡ forwardings st site q)
+    pub trace-counted : firstOf (traceThroughTests st site q (length room)) ≡ Fine → (linesIn answer ≡ linesListed st site q) × (forwardingsIn answer ≡ forwardings st site q)
     trace-counted e =
         let d : tracedFrom answer ≡ tracedNumbered (tracedBy st site q Fine) = trace-told .decoded ∙ ap (λ (v : Verdict). tracedNumbered (tracedBy st site q v)) e in
         (ap (λ (i : Numbered). getD (i .values) 0 0) d, ap (λ (i : Numbered). getD (i .values) 1 0) d)
 
     -- "1 to 256", and the forwardings are one less
-    pub trace-lines : q .start < 256 → numberIn answer ≡ 0 → (1 ≤ linesIn answer) × ((linesIn answer ≤ 256) × (forwardingsIn answer + 1 ≡ linesIn answer))
-    trace-lines h z = go (firstOf (traceTests st site q (length room))) refl
+    pub trace-lines : numberIn answer ≡ 0 → (1 ≤ linesIn answer) × ((linesIn answer ≤ 256) × (forwardingsIn answer + 1 ≡ linesIn answer))
+    trace-lines z = go (firstOf (traceThroughTests st site q (length room))) refl
       where
-        go : (v : Verdict) → firstOf (traceTests st site q (length room)) ≡ v → (1 ≤ linesIn answer) × ((linesIn answer ≤ 256) × (forwardingsIn answer + 1 ≡ linesIn answer))
+        go : (v : Verdict) → firstOf (traceThroughTests st site q (length room)) ≡ v → (1 ≤ linesIn answer) × ((linesIn answer ≤ 256) × (forwardingsIn answer + 1 ≡ linesIn answer))
         go Fine e =
             let n = trace-counted e in
+            let h : q .start < 256 = start-fits q (not-false (queryFits q) (passed-iff (traceThroughTests st site q (length room)) .0 e .0)) in
             let some : 1 ≤ linesListed st site q = lines-some st site q h in
             (rw (n .0) some, (rw (n .0) (lines-most st site q), rw (n .0, n .1, trace-less-one st site q h) (omega arith)))
         go (Refuse r) e = absurd (trace-told .accepted .0 z r e)
 
     -- refused: the room as it was
     pub trace-leaves : (numberIn answer ≡ 0 → ⊥) → room′ ≡ room
-    trace-leaves n = go (firstOf (traceTests st site q (length room))) refl
+    trace-leaves n = go (firstOf (traceThroughTests st site q (length room))) refl
       where
-        go : (v : Verdict) → firstOf (traceTests st site q (length room)) ≡ v → room′ ≡ room
+        go : (v : Verdict) → firstOf (traceThroughTests st site q (length room)) ≡ v → room′ ≡ room
         go Fine e = absurd (n (trace-told .accepted .1 (λ r f. fine-refuse (sym e ∙ f))))
         go (Refuse r) e = w .left ∙ ap (λ (v : Verdict). over (listBy st site q v) room) e
 
@@ -240,20 +249,22 @@ zero-reached Reached h e = refl
 zero-reached (NotReached stop) h e = absurd (eqb-false (passageNumber (stop .reason)) 0 (h stop refl .reason) (omega arith))
 zero-reached (Refused q) h e = absurd (eqb-false _ _ (refused-number q) e)
 
-module _ (st : Stores) (site : List ℕ) (q : Query) (line : ℕ) (h : q .start < 256) (k : line < 256) where
-  why-stops : (stop : Stop) → answerWhy st site q line ≡ NotReached stop → Stops stop
-  unfolding answerWhy
-  why-stops stop = go (firstOf (whyTests st site q)) refl
+module _ (st : Stores) (site : List ℕ) (q : Query) (line : ℕ) where
+  why-stops : (stop : Stop) → whyThrough st site q line ≡ NotReached stop → Stops stop
+  unfolding whyThrough
+  why-stops stop = go (firstOf (whyThroughTests st site q line)) refl
     where
-      go : (v : Verdict) → firstOf (whyTests st site q) ≡ v → answerBy Refused (whyOf st site q line) v ≡ NotReached stop → Stops stop
+      go : (v : Verdict) → firstOf (whyThroughTests st site q line) ≡ v → answerBy Refused (whyOf st site q line) v ≡ NotReached stop → Stops stop
       go Fine e w =
-          let query : isQuery q ≡ true = not-false (isQuery q) (passed-iff (whyTests st site q) .0 e .0) in
-          stops st site q line stop (leb-true (q .count) 7 (and-true (leb (q .kind) 1) (leb (q .count) 7) query .1)) h k w
+          let passed = passed-iff (whyThroughTests st site q line) .0 e in
+          let fit = and-true (queryFits q) (ltb line 256) (not-false (queryFits q && ltb line 256) (passed .0)) in
+          let query = and-true (leb (q .kind) 1) (leb (q .count) 7) (not-false (isQuery q) (passed .1 .0)) in
+          stops st site q line stop (leb-true (q .count) 7 (query .1)) (start-fits q (fit .0)) (ltb-true line 256 (fit .1)) w
       go (Refuse r) e w = let z : _≡_ {A = ℕ} 0 1 = cc in absurd (omega arith)
 
-  pub why-told : Tells 25 explanationFrom (explanationNumber (answerWhy st site q line)) (explanationNumbered (answerWhy st site q line)) (λ r. answerWhy st site q line ≡ Refused r)
-  why-told = explanation-answer (answerWhy st site q line) why-stops
+  pub why-told : Tells 25 explanationFrom (explanationNumber (whyThrough st site q line)) (explanationNumbered (whyThrough st site q line)) (λ r. whyThrough st site q line ≡ Refused r)
+  why-told = explanation-answer (whyThrough st site q line) why-stops
 
   -- where the line is reached, and there only, every bit is 0
-  pub why-reached : explanationNumber (answerWhy st site q line) ≡ 0 ↔ (answerWhy st site q line ≡ Reached)
-  why-reached = (zero-reached (answerWhy st site q line) why-stops, ap explanationNumber)
+  pub why-reached : explanationNumber (whyThrough st site q line) ≡ 0 ↔ (whyThrough st site q line ≡ Reached)
+  why-reached = (zero-reached (whyThrough st site q line) why-stops, ap explanationNumber)

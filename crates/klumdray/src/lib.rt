@@ -8,10 +8,9 @@ ghost use mathlib.Core.Bool.{_&&_};
 ghost use Rattle.octets.specs.Check.{checkOctet};
 ghost use Rattle.site.specs.Stores.{stores};
 ghost use Rattle.tracer.specs.Query.{queryOf};
-ghost use Rattle.tracer.specs.Why.{answerWhy};
 ghost use Rattle.klumdray.specs.Block.{couplerSet, lentRight, SteppedThrough};
 ghost use Rattle.klumdray.specs.Numbers.{tp1Answered, cemiAnswered, routingAnswered, areNumbers, areMarks, meaningFrom, messageFrom, WroteTp1, WroteCemi, WroteRouting};
-ghost use Rattle.klumdray.specs.Traces.{explanationNumber, TracedThrough};
+ghost use Rattle.klumdray.specs.Traces.{explanationNumber, TracedThrough, whyThrough};
 use cemi::Codes;
 
 #[no_mangle]
@@ -189,10 +188,10 @@ pub extern "C" fn klumdray_step(
 
 #[no_mangle]
 pub extern "C" fn klumdray_trace<'a>(
-    start: u8,
-    kind: u8,
-    destination: u16,
-    count: u8,
+    start: u32,
+    kind: u32,
+    destination: u32,
+    count: u32,
     site: &[u8],
     project: &'a [u8],
     own: &'a [u8],
@@ -200,25 +199,35 @@ pub extern "C" fn klumdray_trace<'a>(
 ) -> u64
     ensures { λ r. ⌜ TracedThrough (stores (now (project .entry)) (now (own .entry))) (now (site .entry)) (queryOf start kind destination count) (now (room .entry)) r (now (room .exit)) ⌝ }
 {
-    let query = tracer::query_of(start, kind, destination, count);
-    let traced = tracer::trace(query, site, project, own, room);
-    traces::of_traced(traced)
+    if traces::query_fits(start, kind, destination, count) {
+        let query = traces::query_from(start, kind, destination, count);
+        let traced = tracer::trace(query, site, project, own, room);
+        traces::of_traced(traced)
+    } else {
+        14
+    }
 }
 
 #[no_mangle]
 pub extern "C" fn klumdray_why<'a>(
-    start: u8,
-    kind: u8,
-    destination: u16,
-    count: u8,
+    start: u32,
+    kind: u32,
+    destination: u32,
+    count: u32,
     site: &[u8],
     project: &'a [u8],
     own: &'a [u8],
-    line: u8,
+    line: u32,
 ) -> u32
-    ensures { λ r. ⌜ r ≡ explanationNumber (answerWhy (stores (now (project .entry)) (now (own .entry))) (now (site .entry)) (queryOf start kind destination count) line) ⌝ }
+    ensures { λ r. ⌜ r ≡ explanationNumber (whyThrough (stores (now (project .entry)) (now (own .entry))) (now (site .entry)) (queryOf start kind destination count) line) ⌝ }
 {
-    let query = tracer::query_of(start, kind, destination, count);
-    let explanation = tracer::why(query, site, project, own, line);
-    traces::of_explanation(explanation)
+    let fit = traces::query_fits(start, kind, destination, count) & (line < 256);
+    if fit {
+        let query = traces::query_from(start, kind, destination, count);
+        let asked = numbers::octet_of(line);
+        let explanation = tracer::why(query, site, project, own, asked);
+        traces::of_explanation(explanation)
+    } else {
+        14
+    }
 }

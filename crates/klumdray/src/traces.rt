@@ -1,13 +1,33 @@
-// The tracer's answers as the numbers that cross the surface.
+// A caller's numbers as a query, and the tracer's answers as the numbers that cross the surface.
 ghost use mathlib.Core.Path.{_≡_};
-ghost use Prim.Native.Nat.{_<_};
+ghost use Prim.Native.Nat.{_%_, _<_};
 ghost use Rattle.tracer.specs.declared.Explanation.the-variants.{NotReached};
+ghost use Rattle.tracer.specs.Query.{queryOf};
 ghost use Rattle.passing.specs.Answers.{passageNumber};
-ghost use Rattle.klumdray.specs.Traces.{tracedNumber, explanationNumber};
+ghost use Rattle.klumdray.specs.Traces.{queryFits, tracedNumber, explanationNumber};
+use crate::numbers;
 use passing::Passage;
 use tracer::Explanation;
+use tracer::Query;
 use tracer::Stop;
 use tracer::Traced;
+
+pub(crate) fn query_fits(start: u32, kind: u32, destination: u32, count: u32) -> bool
+    ensures { λ r. ⌜ r ≡ queryFits (queryOf start kind destination count) ⌝ }
+{
+    (start < 256) & (kind < 256) & (destination < 65536) & (count < 256)
+}
+
+pub(crate) fn query_from(start: u32, kind: u32, destination: u32, count: u32) -> Query
+    ensures { λ r. ⌜ r ≡ queryOf (start % 256) (kind % 256) (destination % 65536) (count % 256) ⌝ }
+{
+    Query {
+        start: numbers::octet_of(start),
+        kind: numbers::octet_of(kind),
+        destination: numbers::word_of(destination),
+        count: numbers::octet_of(count),
+    }
+}
 
 pub(crate) fn of_traced(traced: Traced) -> u64
     ensures { λ r. ⌜ r ≡ tracedNumber traced ⌝ }

@@ -1,13 +1,16 @@
 -- The C surface. Each sentence of include/klumdray.h about a number that a call answers, a part of the caller's octets, the list in a room or
 -- the memory in a block, as a theorem of every answer that the call's contract allows. A decoder is what the header's helpers work out
--- (klumdray Decoding, specs). Premises are what the parameters' types give: octets are below 256, and so is a line.
+-- (klumdray Decoding, specs). Premises are what the parameters' types give: octets are below 256. What becomes of numbers outside their ranges
+-- says Given.
 use Prim.Native.Nat.{ℕ, _+_, _≤_, _<_}
 use mathlib.Core.Bool.{Bool, true, false, cond, _&&_}
 use mathlib.Core.List.{List, [], _∷_}
 use mathlib.Core.Logic.{_↔_}
-use mathlib.Core.Path.{_≡_, sym, ap, _∙_}
+use mathlib.Core.Path.{_≡_, refl, sym, ap, _∙_}
 use native.Mathlib.Omega.{arith}
+use lib.Dec.{ltb}
 use lib.ListN.{length, take, drop}
+use borrow.Author.Tests.{eqb-false, not-false}
 use Rattle.cemi.proofs.LayoutLaws.{length-plain}
 use Rattle.cemi.specs.Answers.{cemiNumbered}
 use Rattle.cemi.specs.Layout.{plain}
@@ -20,9 +23,11 @@ use Rattle.coupler.specs.Step.{Coupler, Heard, Did, outcomeBy, fromIp, nothing}
 use Rattle.coupler.specs.declared.Memory.{Memory}
 use Rattle.coupler.specs.declared.Outcome.{Outcome}
 use Rattle.frame.proofs.Numbers.{number-listed}
+use Rattle.frame.proofs.Order.{passed-iff}
 use Rattle.frame.specs.Answers.{Numbered, writtenNumbered}
 use Rattle.frame.specs.Order.{firstOf}
-use Rattle.frame.specs.declared.Verdict.the-variants.{Refuse}
+use Rattle.frame.specs.declared.Verdict.the-variants.{Fine, Refuse}
+use Rattle.frame.specs.declared.Verdict.{Verdict}
 use Rattle.frame.specs.Refusals.{number, lastNumber}
 use Rattle.frame.specs.Valid.{inRange}
 use Rattle.frame.specs.Writing.{written}
@@ -34,15 +39,17 @@ use Rattle.klumdray.proofs.Parts.{tp1-payload, cemi-parts, routing-parts}
 use Rattle.klumdray.proofs.ReaderNumbers.{tp1-tells, cemi-tells, routing-tells}
 use Rattle.klumdray.proofs.Remembered.{remembered-is, remembered-within, step-remembers, step-recalls, step-leaves, step-from-ip}
 use Rattle.klumdray.proofs.StepNumbers.{step-told, step-between, step-most}
+use Rattle.klumdray.proofs.Surface.{trace-inside, why-inside, why-unfit}
 use Rattle.klumdray.proofs.Telling.{tells-one}
-use Rattle.klumdray.proofs.TracerNumbers.{trace-told, trace-lines, trace-leaves, why-told, why-reached}
+use Rattle.klumdray.proofs.TracerNumbers.{trace-told, trace-counted, trace-lines, trace-leaves, why-told, why-reached}
 use Rattle.klumdray.proofs.WriterNumbers.{written-told, written-size, written-leaves, tp1-most, cemi-most, routing-most}
 use Rattle.klumdray.specs.Block.{memoryIn, lentRight, heardThrough, SteppedThrough}
 use Rattle.klumdray.specs.Decoding.{bits, numberIn, writtenIn, payloadLengthIn, forwardedIn, linesIn, forwardingsIn, tp1From, cemiFrom, writtenFrom, explanationFrom, outcomeNumbered, outcomeFrom, tracedNumbered, tracedFrom, Tells, TellsParts, TellsReading, tp1PayloadStart, cemiInformationStart, cemiInformationLength, routingInformationStart, routingInformationLength, LiesAt, MessageParts, rememberedPart, rememberedSize, rememberedStart, ListReads}
 use Rattle.klumdray.specs.Numbers.{tp1Answered, cemiAnswered, routingAnswered, WroteNumber, WroteTp1, WroteCemi, WroteRouting}
-use Rattle.klumdray.specs.Traces.{explanationNumber, TracedThrough}
+use Rattle.klumdray.specs.Traces.{explanationNumber, queryFits, traceThroughTests, TracedThrough, whyThrough}
+use Rattle.octets.proofs.Truth.{by-cases}
 use Rattle.octets.specs.Octets.{Octets}
-use Rattle.octets.specs.Room.{laid}
+use Rattle.octets.specs.Room.{laid, over}
 use Rattle.octets.specs.Word.{high, low}
 use Rattle.routing.proofs.LayoutLaws.{length-routing}
 use Rattle.routing.specs.Layout.{routingOctets}
@@ -55,7 +62,7 @@ use Rattle.tp1.specs.Reading.{readTp1, payloadIn, payloadAt}
 use Rattle.tracer.specs.Answers.{explanationNumbered}
 use Rattle.tracer.specs.Listing.{crossingPasses}
 use Rattle.tracer.specs.declared.Query.{Query}
-use Rattle.tracer.specs.Tracing.{traceTests, tracedBy}
+use Rattle.tracer.specs.Tracing.{traceTests, tracedBy, listBy, DidTrace}
 use Rattle.tracer.specs.Why.{answerWhy}
 use Rattle.tracer.specs.declared.Explanation.the-variants.{Reached}
 use Rattle.cemi.specs.Reading.{payloadIn as cemiPayload, payloadAt as cemiPayloadAt}
@@ -171,11 +178,29 @@ remembered-read block side n h = (remembered-within block side n h, remembered-i
 
 -- "A trace's answer. With a refusal every bit above 7 is 0."
 module _ (st : Stores) (site : List ℕ) (q : Query) (room : List ℕ) (answer : ℕ) (room′ : List ℕ) (w : TracedThrough st site q room answer room′) where
-  pub trace-back : Tells 40 tracedFrom answer (tracedNumbered (tracedBy st site q (firstOf (traceTests st site q (length room))))) (λ r. firstOf (traceTests st site q (length room)) ≡ Refuse r)
+  abbrev verdict : Verdict
+  verdict = firstOf (traceThroughTests st site q (length room))
+
+  pub trace-back : Tells 40 tracedFrom answer (tracedNumbered (tracedBy st site q verdict)) (λ r. verdict ≡ Refuse r)
   trace-back = trace-told st site q w
 
+  -- a trace that is not refused is the trace inside, of the numbers as they are given
+  pub trace-is-inside : numberIn answer ≡ 0 → DidTrace st site q room (record { number = 0; lines = linesIn answer; forwardings = forwardingsIn answer }) room′
+  trace-is-inside z = go verdict refl
+    where
+      go : (v : Verdict) → verdict ≡ v → DidTrace st site q room (record { number = 0; lines = linesIn answer; forwardings = forwardingsIn answer }) room′
+      go Fine e =
+          let fits : queryFits q ≡ true = not-false (queryFits q) (passed-iff (traceThroughTests st site q (length room)) .0 e .0) in
+          let inside : Fine ≡ firstOf (traceTests st site q (length room)) = sym (trace-inside st site q (length room) fits ∙ e) in
+          let n = trace-counted st site q w e in
+          record {
+            answered = rw (n .0, n .1) (ap (tracedBy st site q) inside);
+            left = w .left ∙ ap (λ (v : Verdict). over (listBy st site q v) room) (e ∙ inside);
+          }
+      go (Refuse r) e = absurd (trace-back .accepted .0 z r e)
+
   -- "how many lines are listed, 1 to 256"; "the forwardings made on the site: the lines listed less one"
-  pub one-to-256-lines : q .start < 256 → numberIn answer ≡ 0 → (1 ≤ linesIn answer) × ((linesIn answer ≤ 256) × (forwardingsIn answer + 1 ≡ linesIn answer))
+  pub one-to-256-lines : numberIn answer ≡ 0 → (1 ≤ linesIn answer) × ((linesIn answer ≤ 256) × (forwardingsIn answer + 1 ≡ linesIn answer))
   one-to-256-lines = trace-lines st site q w
 
   -- "The list is the first octets of the room, three for each listed line, in rising order of the lines"
@@ -186,12 +211,16 @@ module _ (st : Stores) (site : List ℕ) (q : Query) (room : List ℕ) (answer :
   trace-refused-stays = trace-leaves st site q w
 
 -- "A why's answer is one number of 32 bits. With a refusal, and where the line is reached, every other bit is 0."
-module _ (st : Stores) (site : List ℕ) (q : Query) (line : ℕ) (h : q .start < 256) (k : line < 256) where
-  pub why-back : Tells 25 explanationFrom (explanationNumber (answerWhy st site q line)) (explanationNumbered (answerWhy st site q line)) (λ r. answerWhy st site q line ≡ Unexplained r)
-  why-back = why-told st site q line h k
+module _ (st : Stores) (site : List ℕ) (q : Query) (line : ℕ) where
+  pub why-back : Tells 25 explanationFrom (explanationNumber (whyThrough st site q line)) (explanationNumbered (whyThrough st site q line)) (λ r. whyThrough st site q line ≡ Unexplained r)
+  why-back = why-told st site q line
 
-  pub reached-is-zero : explanationNumber (answerWhy st site q line) ≡ 0 ↔ (answerWhy st site q line ≡ Reached)
-  reached-is-zero = why-reached st site q line h k
+  pub reached-is-zero : explanationNumber (whyThrough st site q line) ≡ 0 ↔ (whyThrough st site q line ≡ Reached)
+  reached-is-zero = why-reached st site q line
+
+  -- an explanation that is not refused is the one inside, of the numbers as they are given
+  pub why-is-inside : numberIn (explanationNumber (whyThrough st site q line)) ≡ 0 → whyThrough st site q line ≡ answerWhy st site q line
+  why-is-inside z = by-cases (queryFits q && ltb line 256) (λ f. sym (why-inside st site q line f)) (λ f. absurd (eqb-false 14 0 refl (ap numberIn (why-unfit st site q line f) ∙ z)))
 
 -- two different answers never give the same number
 pub answers-apart : {v w : ℕ} {from : ℕ → Numbered} {a b : ℕ} {i j : Numbered} {P Q : Refusal → Type 0} → Tells v from a i P → Tells w from b j Q → a ≡ b → i ≡ j
