@@ -624,8 +624,8 @@ static void traces_with_tables(void)
 static uint64_t refused_site(struct site s)
 {
     uint64_t answer = trace(&s, 0x00, KLUMDRAY_GROUP, 0x1234, 7);
-    uint64_t other = why(&s, 0x00, KLUMDRAY_GROUP, 0x1234, 7, 0x20);
-    return answer == other && untouched(s.room, sizeof s.room) ? answer : 255;
+    uint64_t explained = why(&s, 0x00, KLUMDRAY_GROUP, 0x1234, 7, 0x20);
+    return answer == explained && untouched(s.room, sizeof s.room) ? answer : 255;
 }
 
 static void refused_sites(void)
