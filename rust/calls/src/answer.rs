@@ -1,0 +1,231 @@
+//! The reference's answers, as the numbers and blocks of octets that include/klumdray.h documents.
+
+use crate::call::{Call, Function};
+use reference::cemi::{self, Code};
+use reference::coupler::{self, Acknowledgement, Coupler, Memory, Outcome, Remembered, Side};
+use reference::refusal::RANGE;
+use reference::site::Site;
+use reference::tracer::{self, Query, Stop, Traced};
+use reference::{routing, tp1, Format, Given, Meaning};
+
+pub const SETTINGS_SIZE: usize = 10;
+pub const MEMORY_SIZE: usize = 530;
+const PART_SIZE: usize = MEMORY_SIZE / 2;
+
+/// An answer as a caller widens it to 64 bits, and every room as the call leaves it.
+#[derive(Clone, Debug)]
+pub struct Answer {
+    pub number: u64,
+    pub rooms: Vec<Vec<u8>>,
+}
+
+impl Answer {
+    pub fn of(call: &Call) -> Answer {
+        let (numbers, mut rooms) = (call.numbers(), call.rooms());
+        let slices = call.slices();
+        let slices: Vec<&[u8]> = slices.iter().map(|slice| slice.as_ref()).collect();
+        let number = number(call.function, &numbers, &slices, &mut rooms);
+        Answer { number, rooms }
+    }
+}
+
+fn number(function: Function, numbers: &[u32], slices: &[&[u8]], rooms: &mut [Vec<u8>]) -> u64 {
+    match (function, numbers, slices, rooms) {
+        (Function::CheckOctet, [], &[octets], []) => reference::check_octet(octets).into(),
+        (Function::Tp1Read, [], &[octets], []) => {
+            let frame = tp1::read(octets);
+            packed(frame.map(|it| packed_meaning(&it.meaning, it.payload)))
+        }
+        (Function::CemiRead, [], &[octets], []) => packed_message(cemi::read(octets)),
+        (Function::RoutingRead, [], &[octets], []) => packed_message(routing::read(octets)),
+        (Function::Tp1Write, numbers, &[payload], [room]) => {
+            packed_size(given(numbers).and_then(|given| tp1::write(&given, payload, room)))
+        }
+        (Function::CemiWrite, &[code, mark, ref numbers @ ..], &[payload], [room]) => {
+            let (code, mark) = (octet(code), octet(mark));
+            let write = |given| cemi::write(code, mark, &given, payload, room);
+            packed_size(given(numbers).and_then(write))
+        }
+        (Function::RoutingWrite, &[code, mark, ref numbers @ ..], &[payload], [room]) => {
+            let (code, mark) = (octet(code), octet(mark));
+            let write = |given| routing::write(code, mark, &given, payload, room);
+            packed_size(given(numbers).and_then(write))
+        }
+        (Function::Step, &[side], &[settings, table, octets], [memory, room]) => {
+            let outcome = step(settings, table, octet(side), memory, octets, room);
+            packed_outcome(outcome.unwrap_or_else(Outcome::refused))
+        }
+        (Function::Trace, numbers, &[records, project, own], [room]) => {
+            let site = Site {
+                records,
+                project,
+                own,
+            };
+            packed_trace(query(numbers).and_then(|query| tracer::trace(&query, &site, room)))
+        }
+        (Function::Why, &[ref numbers @ .., line], &[records, project, own], []) => {
+            let site = Site {
+                records,
+                project,
+                own,
+            };
+            packed_why(why(numbers, &site, line)).into()
+        }
+        _ => panic!("{function:?} has other arguments"),
+    }
+}
+
+/// A number as the reference takes it, where 255 is outside its range: so is every larger one.
+fn octet(number: u32) -> u8 {
+    number.min(255) as u8
+}
+
+/// A line, whose range is all that an octet has.
+fn line(number: u32) -> Result<u8, u8> {
+    u8::try_from(number).map_err(|_| RANGE)
+}
+
+/// An address, whose range is all that two octets have.
+fn address(number: u32) -> Result<u16, u8> {
+    u16::try_from(number).map_err(|_| RANGE)
+}
+
+fn given(numbers: &[u32]) -> Result<Given, u8> {
+    let &[extended, first_sending, priority, source, group, destination, count] = numbers else {
+        panic!("{} numbers of a frame", numbers.len());
+    };
+    Ok(Given {
+        extended: octet(extended),
+        first_sending: octet(first_sending),
+        priority: octet(priority),
+        source: address(source)?,
+        group: octet(group),
+        destination: address(destination)?,
+        count: octet(count),
+    })
+}
+
+fn query(numbers: &[u32]) -> Result<Query, u8> {
+    let &[start, kind, destination, count] = numbers else {
+        panic!("{} numbers of a query", numbers.len());
+    };
+    Ok(Query {
+        start: line(start)?,
+        kind: octet(kind),
+        destination: address(destination)?,
+        count: octet(count),
+    })
+}
+
+/// "the line among its numbers": 14 whatever else is wrong.
+fn why(numbers: &[u32], site: &Site<'_>, asked: u32) -> Result<Option<Stop>, u8> {
+    tracer::why(&query(numbers)?, site, line(asked)?)
+}
+
+/// "settings not 10 or memory not 530 octets long (14)", then the reference's.
+fn step(
+    settings: &[u8],
+    table: &[u8],
+    side: u8,
+    memory: &mut [u8],
+    octets: &[u8],
+    room: &mut [u8],
+) -> Result<Outcome, u8> {
+    let &[line, d0, d1, d2, d3, u0, u1, u2, u3, medium] = settings else {
+        return Err(RANGE);
+    };
+    if memory.len() != MEMORY_SIZE {
+        return Err(RANGE);
+    }
+    let codes = [[d0, d1, d2, d3], [u0, u1, u2, u3]];
+    let coupler = Coupler { line, codes, table };
+    let before = Memory {
+        main: part(&memory[..PART_SIZE]),
+        sub: part(&memory[PART_SIZE..]),
+    };
+    let mut after = before.clone();
+    let outcome = coupler::step(&coupler, side, medium, &mut after, octets, room);
+    if after.main != before.main {
+        put_part(&mut memory[..PART_SIZE], &after.main);
+    }
+    if after.sub != before.sub {
+        put_part(&mut memory[PART_SIZE..], &after.sub);
+    }
+    Ok(outcome)
+}
+
+/// "a size from 1 to 7, which counts as a frame whose missing octets are 0": the reference is given
+/// the missing ones, up to 7 octets, since no frame that a step remembers is so short.
+fn part(octets: &[u8]) -> Remembered {
+    let (size, frame) = octets.split_at(2);
+    let mut remembered = Remembered {
+        size: usize::from(u16::from_be_bytes([size[0], size[1]])),
+        octets: frame.try_into().expect("the octets of a part"),
+    };
+    if (1..=7).contains(&remembered.size) {
+        remembered.octets[remembered.size..].fill(0);
+        remembered.size = 7;
+    }
+    remembered
+}
+
+/// The frame alone: "those behind the frame .. stay".
+fn put_part(octets: &mut [u8], remembered: &Remembered) {
+    let frame = remembered.frame().expect("a frame that a step remembered");
+    octets[..2].copy_from_slice(&(frame.len() as u16).to_be_bytes());
+    octets[2..][..frame.len()].copy_from_slice(frame);
+}
+
+/// "With a refusal every bit above 7 is 0."
+fn packed(answer: Result<u64, u8>) -> u64 {
+    answer.unwrap_or_else(u64::from)
+}
+
+fn packed_meaning(meaning: &Meaning, payload: &[u8]) -> u64 {
+    u64::from(meaning.format == Format::Extended) << 8
+        | u64::from(meaning.first_sending) << 9
+        | u64::from(meaning.priority) << 10
+        | u64::from(meaning.group) << 12
+        | u64::from(meaning.count) << 13
+        | u64::from(meaning.source) << 16
+        | u64::from(meaning.destination) << 32
+        | (payload.len() as u64) << 48
+}
+
+fn packed_message(message: Result<cemi::Frame<'_>, u8>) -> u64 {
+    packed(message.map(|it| {
+        let code = match it.code {
+            Code::Request => 1,
+            Code::Confirmation => 2,
+            Code::Indication => 3,
+        };
+        // "error mark, in a confirmation only"
+        packed_meaning(&it.meaning, it.payload) | code << 56 | u64::from(it.error_mark) << 58
+    }))
+}
+
+fn packed_size(written: Result<usize, u8>) -> u64 {
+    packed(written.map(|size| (size as u64) << 8))
+}
+
+fn packed_outcome(outcome: Outcome) -> u64 {
+    u64::from(outcome.number)
+        | u64::from(outcome.acknowledgement.map_or(0, Acknowledgement::octet)) << 8
+        | u64::from(outcome.own) << 16
+        | (outcome.forwarded as u64) << 32
+}
+
+fn packed_trace(traced: Result<Traced, u8>) -> u64 {
+    packed(traced.map(|it| (it.listed as u64) << 8 | (it.forwardings as u64) << 24))
+}
+
+fn packed_why(why: Result<Option<Stop>, u8>) -> u32 {
+    match why {
+        Ok(None) => 0,
+        Ok(Some(Stop { line, from, reason })) => {
+            let direction = u32::from(from == Side::Sub);
+            (reason as u32 + 1) << 8 | u32::from(line) << 16 | direction << 24
+        }
+        Err(number) => number.into(),
+    }
+}

@@ -1,0 +1,217 @@
+//! Tests that a table is about something: every function, every number, every outcome.
+
+use crate::answer::Answer;
+use crate::call::{Function, FUNCTIONS};
+use crate::numbers::Width;
+use crate::reader::{kinds, Reader, ORDER};
+use crate::rounds::{table, Options};
+use std::collections::BTreeSet;
+
+/// As tools/check-boards asks for it.
+const SHORT: Options = Options {
+    count: 4000,
+    seed: 0x4b6c_756d_6472_6179,
+    width: Width::Wide,
+    is_small: false,
+};
+
+const SMALL: Options = Options {
+    is_small: true,
+    ..SHORT
+};
+
+fn octets(options: Options) -> Vec<u8> {
+    table(options).into_octets()
+}
+
+#[test]
+fn functions_and_arguments_are_those_of_the_calls() {
+    let calls = include_str!("../../../tests/emulated/calls.h");
+    let mut listed = calls.split("\nCALL(").skip(1);
+    for function in ORDER {
+        let call = listed.next().expect("a call");
+        let name: String = format!("{function:?}").to_lowercase();
+        let told = call
+            .split([' ', ','])
+            .find(|word| word.starts_with("klumdray_"));
+        let told = told.expect("a name").replace('_', "");
+        assert_eq!(told, format!("klumdray{name}"));
+        let found: String = call
+            .split(|letter: char| !letter.is_ascii_uppercase())
+            .filter_map(|word| match word {
+                "NUMBER" => Some('n'),
+                "OCTETS" => Some('o'),
+                "ROOM" => Some('r'),
+                _ => None,
+            })
+            .collect();
+        assert_eq!(found, kinds(function), "{name}");
+    }
+    assert!(listed.next().is_none());
+}
+
+#[test]
+fn a_table_reads_back_with_the_reference_s_answers() {
+    for options in [SHORT, SMALL] {
+        let octets = octets(options);
+        let mut reader = Reader::new(&octets);
+        assert_eq!(reader.count, options.count);
+        let mut calls = 0;
+        for row in &mut reader {
+            let expected = Answer::of(&row.call);
+            assert_eq!(row.answer.number, expected.number);
+            assert_eq!(row.answer.rooms, expected.rooms);
+            calls += 1;
+        }
+        assert_eq!(calls, options.count);
+    }
+}
+
+#[test]
+fn the_same_seed_gives_the_same_table() {
+    assert!(octets(SHORT) == octets(SHORT));
+    let other = Options {
+        seed: SHORT.seed + 1,
+        ..SHORT
+    };
+    assert!(octets(SHORT) != octets(other));
+}
+
+#[test]
+fn every_function_has_its_share() {
+    for count in [100, 401, 499, 500, 777, 4000] {
+        let table = table(Options { count, ..SHORT });
+        assert_eq!(table.count(), count);
+        for (function, numbers) in table.numbers.iter().enumerate() {
+            let calls: u64 = numbers.iter().sum();
+            assert!(calls * 20 >= count as u64, "{function}: {calls} of {count}");
+        }
+    }
+}
+
+/// The numbers that include/klumdray.h names for each function.
+const NUMBERS: [&[usize]; FUNCTIONS] = [
+    &[0],
+    &[0, 1, 2, 3, 4, 5, 6],
+    &[0, 13, 14],
+    &[0, 1, 3, 4, 5, 7, 8, 9],
+    &[0, 13, 14],
+    &[0, 1, 3, 4, 5, 7, 8, 9, 10, 11, 12],
+    &[0, 13, 14],
+    &[0, 1, 2, 3, 4, 5, 6, 7, 8, 9, 10, 11, 12, 13, 14, 15, 18],
+    &[0, 13, 14, 15, 16, 17, 18],
+    &[0, 14, 15, 16, 17, 18],
+];
+
+#[test]
+fn every_number_comes_from_every_function_that_has_it() {
+    for options in [SHORT, SMALL] {
+        let table = table(options);
+        for (function, numbers) in table.numbers.iter().enumerate() {
+            let given = (0..numbers.len()).filter(|&number| numbers[number] > 0);
+            assert_eq!(given.collect::<Vec<_>>(), NUMBERS[function], "{function}");
+        }
+    }
+}
+
+/// What a step came to, as far as its answer and its medium tell.
+fn outcome(row: &crate::reader::Row) -> Option<(&'static str, bool, u32)> {
+    let answer = row.answer.number;
+    if row.call.function != Function::Step || answer as u8 != 0 {
+        return None;
+    }
+    let side = row.call.numbers()[0];
+    let on_ip = row.call.slices()[0][9] == 1;
+    let (acknowledged, own) = (answer >> 8 & 0xff != 0, answer >> 16 & 1 == 1);
+    let kind = match (answer >> 32 > 0, own, acknowledged) {
+        (true, ..) => "forwarded",
+        (_, true, _) => "own",
+        (_, _, true) => "repetition",
+        _ => "stopped",
+    };
+    Some((kind, on_ip, side))
+}
+
+#[test]
+fn every_outcome_of_a_step_comes() {
+    for options in [SHORT, SMALL] {
+        let octets = octets(options);
+        let outcomes: BTreeSet<_> = Reader::new(&octets)
+            .filter_map(|row| outcome(&row))
+            .collect();
+        for side in [0, 1] {
+            for on_ip in [false, true] {
+                for kind in ["forwarded", "own", "repetition", "stopped"] {
+                    // IP has no repetitions.
+                    let is_possible = kind != "repetition" || side == 1 || !on_ip;
+                    assert_eq!(outcomes.contains(&(kind, on_ip, side)), is_possible);
+                }
+            }
+        }
+    }
+}
+
+#[test]
+fn every_reason_comes() {
+    for options in [SHORT, SMALL] {
+        let octets = octets(options);
+        let whys = Reader::new(&octets).filter(|row| row.call.function == Function::Why);
+        let reasons: BTreeSet<u64> = whys.map(|row| row.answer.number >> 8 & 0xff).collect();
+        assert_eq!(reasons, (0..=7).collect());
+    }
+}
+
+/// Functions and places of the numbers above 8 bits, or 16 for an address.
+fn wide_places(options: Options) -> BTreeSet<(usize, usize)> {
+    let octets = octets(options);
+    let mut places = BTreeSet::new();
+    for row in Reader::new(&octets) {
+        let addresses: &[usize] = match row.call.function {
+            Function::Tp1Write => &[3, 5],
+            Function::CemiWrite | Function::RoutingWrite => &[5, 7],
+            Function::Trace | Function::Why => &[2],
+            _ => &[],
+        };
+        for (place, number) in row.call.numbers().into_iter().enumerate() {
+            let most = if addresses.contains(&place) {
+                65_535
+            } else {
+                255
+            };
+            if number > most {
+                assert_ne!(row.answer.number, 0);
+                places.insert((row.call.function as usize, place));
+            }
+        }
+    }
+    places
+}
+
+#[test]
+fn every_number_is_once_above_its_bits_unless_narrow() {
+    let numbers = |function: &Function| kinds(*function).matches('n').count();
+    assert_eq!(
+        wide_places(SHORT).len(),
+        ORDER.iter().map(numbers).sum::<usize>()
+    );
+    let narrow = Options {
+        width: Width::Narrow,
+        ..SHORT
+    };
+    assert!(wide_places(narrow).is_empty());
+}
+
+#[test]
+fn a_small_table_fits_64_kilobytes() {
+    let octets = octets(SMALL);
+    let most: usize = Reader::new(&octets).most.iter().sum();
+    assert!(most <= 28_500, "{most} octets lent");
+}
+
+#[test]
+fn a_table_has_the_largest_stores_and_sites() {
+    let octets = octets(SHORT);
+    let most = Reader::new(&octets).most;
+    assert!(most[4] >= 255 * 12);
+    assert_eq!(most[5..7], [129 * 8192, 128 * 8192]);
+}

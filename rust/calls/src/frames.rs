@@ -1,0 +1,186 @@
+//! Octets for the readers: frames, messages and datagrams of every length, whole and damaged.
+
+use crate::generator::Generator;
+use crate::numbers;
+use reference::Given;
+
+const CODES: [u8; 3] = [0x11, 0x2e, 0x29];
+
+/// The numbers of a valid frame.
+pub fn some_given(generator: &mut Generator) -> Given {
+    let extended = generator.below(2) == 1;
+    let [_, first_sending, priority, source, group, destination, count] =
+        numbers::frame(generator, extended);
+    Given {
+        extended: extended.into(),
+        first_sending: first_sending as u8,
+        priority: priority as u8,
+        source: source as u16,
+        group: group as u8,
+        destination: destination as u16,
+        count: count as u8,
+    }
+}
+
+/// Of any length that the format has.
+pub fn some_payload(generator: &mut Generator, given: &Given) -> Vec<u8> {
+    let most = if given.extended == 1 { 255 } else { 16 };
+    let length = match generator.below(8) {
+        0 => 1,
+        1 => most,
+        _ => 1 + generator.below(most),
+    };
+    generator.octets(length)
+}
+
+pub fn tp1(given: &Given, payload: &[u8]) -> Vec<u8> {
+    let mut octets = vec![0; payload.len() + 7 + usize::from(given.extended)];
+    let written = reference::tp1::write(given, payload, &mut octets);
+    assert_eq!(written, Ok(octets.len()));
+    octets
+}
+
+/// A message with additional information, and with the bits of Ctrl1 that are not read in any
+/// state.
+pub fn cemi(generator: &mut Generator, code: u8, given: &Given, payload: &[u8]) -> Vec<u8> {
+    let mut octets = vec![0; payload.len() + 9];
+    let written = reference::cemi::write(code, 0, given, payload, &mut octets);
+    assert_eq!(written, Ok(octets.len()));
+    octets[2] ^= generator.octet() & 0b0101_0011;
+    let most = generator.one_of(&[1, 1, 9, 255]);
+    let information = generator.below(most);
+    octets[1] = information as u8;
+    octets.splice(2..2, generator.octets(information));
+    octets
+}
+
+pub fn routing(generator: &mut Generator, given: &Given, payload: &[u8]) -> Vec<u8> {
+    let mut octets = vec![0x06, 0x10, 0x05, 0x30, 0, 0];
+    octets.extend(cemi(generator, 0x29, given, payload));
+    mend_total(&mut octets);
+    octets
+}
+
+pub fn some_tp1(generator: &mut Generator) -> Vec<u8> {
+    let given = some_given(generator);
+    let payload = some_payload(generator, &given);
+    let mut octets = tp1(&given, &payload);
+    match generator.below(16) {
+        0..6 => {}
+        6 => octets = random_tp1(generator),
+        7 => {
+            let place = generator.below(octets.len());
+            octets[place] ^= generator.damage();
+        }
+        _ => damage_tp1(generator, &mut octets),
+    }
+    octets
+}
+
+pub fn some_cemi(generator: &mut Generator) -> Vec<u8> {
+    let given = some_given(generator);
+    let payload = some_payload(generator, &given);
+    let code = generator.one_of(&CODES);
+    let mut octets = cemi(generator, code, &given, &payload);
+    if generator.below(5) > 1 {
+        damage_cemi(generator, &mut octets, 0);
+    }
+    octets
+}
+
+pub fn some_routing(generator: &mut Generator) -> Vec<u8> {
+    let given = some_given(generator);
+    let payload = some_payload(generator, &given);
+    let mut octets = routing(generator, &given, &payload);
+    if generator.below(3) > 0 {
+        damage_routing(generator, &mut octets);
+    }
+    octets
+}
+
+/// Octets by chance behind a control octet that is allowed or not.
+fn random_tp1(generator: &mut Generator) -> Vec<u8> {
+    let length = generator.below(24);
+    let mut octets = generator.octets(length);
+    let likely = generator.one_of(&[0x90, 0x10, 0xbc, 0x3c]);
+    if let (Some(control), true) = (octets.first_mut(), generator.below(4) > 0) {
+        *control = likely;
+    }
+    octets
+}
+
+/// Something wrong with a frame that has at least 8 octets; then perhaps a check octet that fits.
+pub fn damage_tp1(generator: &mut Generator, octets: &mut Vec<u8>) {
+    let place = generator.below(octets.len());
+    let damage = generator.damage();
+    match generator.below(10) {
+        0 => octets.truncate(place),
+        1 => octets.push(damage),
+        2 => octets[place] ^= damage,
+        3 => octets[0] = generator.one_of(&[0xcc, 0x0c, 0xc0, 0xf0, damage]),
+        4 => octets[1] |= damage & 0x0f,
+        5 => octets[6] = 255,
+        6 => octets[6] = octets[6].wrapping_add(1),
+        7 => octets[5] ^= 1,
+        8 => octets[place.min(7)] ^= damage,
+        _ => *octets = generator.octets(place),
+    }
+    if generator.one_in(3) {
+        if let Some((check, before)) = octets.split_last_mut() {
+            *check = reference::check_octet(before);
+        }
+    }
+}
+
+/// Something wrong with a datagram's header or with its message.
+pub fn damage_routing(generator: &mut Generator, octets: &mut Vec<u8>) {
+    match generator.below(5) {
+        0 | 1 => damage_header(generator, octets),
+        _ => damage_cemi(generator, octets, 6),
+    }
+}
+
+/// Something wrong with a message that begins at a place; then perhaps a total length that fits.
+fn damage_cemi(generator: &mut Generator, octets: &mut Vec<u8>, start: usize) {
+    let place = start + generator.below(octets.len() - start);
+    let ctrl1 = start + 2 + usize::from(octets[start + 1]);
+    let damage = generator.damage();
+    match generator.below(14) {
+        0 => octets.truncate(place),
+        1 => octets.push(damage),
+        2 => octets[place] ^= damage,
+        3 | 4 => octets[start] = generator.one_of(&[0x11, 0x2e, 0x29, damage]),
+        5 => octets[start + 1] = 255,
+        6 => octets[start + 1] ^= damage,
+        7 | 8 => octets[ctrl1 + 1] |= damage & 0x0f,
+        9 => octets[ctrl1 + 6] = 255,
+        10 => octets[ctrl1 + 6] ^= damage,
+        11 => octets[ctrl1] ^= 0x80,
+        12 => octets[ctrl1 + generator.below(7)] ^= damage,
+        _ => octets.truncate(start + generator.below(3)),
+    }
+    if start > 0 && generator.below(4) > 0 {
+        mend_total(octets);
+    }
+}
+
+/// Something wrong with a KNXnet/IP header, or with the length that it tells.
+fn damage_header(generator: &mut Generator, octets: &mut Vec<u8>) {
+    let place = generator.below(6);
+    let damage = generator.damage();
+    match generator.below(8) {
+        0 => octets.truncate(place),
+        1 => octets.push(damage),
+        2 | 3 => octets[place % 2] ^= damage,
+        4 | 5 => octets[2 + place % 2] ^= damage,
+        6 => octets[4 + place % 2] ^= damage,
+        _ => octets[place] ^= damage,
+    }
+}
+
+fn mend_total(octets: &mut [u8]) {
+    let total = octets.len() as u16;
+    if let Some(place) = octets.get_mut(4..6) {
+        place.copy_from_slice(&total.to_be_bytes());
+    }
+}

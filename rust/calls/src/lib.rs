@@ -1,0 +1,22 @@
+//! Tables of calls and answers. The inputs come from a seed, the answers from the reference alone: a
+//! machine that plays a table against the proved library compares it with the reference.
+#![forbid(unsafe_code)]
+
+mod answer;
+mod call;
+#[cfg(test)]
+mod coverage;
+mod frames;
+mod generator;
+mod numbers;
+mod plans;
+#[cfg(test)]
+mod reader;
+mod rounds;
+mod table;
+mod traffic;
+mod writes;
+
+pub use numbers::Width;
+pub use rounds::{table, Options};
+pub use table::Table;

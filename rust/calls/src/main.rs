@@ -1,0 +1,61 @@
+//! calls COUNT SEED [--narrow] [--small] > FILE
+
+use calls::{table, Options, Table, Width};
+use std::io::Write;
+use std::process::ExitCode;
+
+const USAGE: &str = "usage: calls COUNT SEED [--narrow] [--small] > FILE
+  COUNT     how many calls, 100 at least
+  SEED      a number, hexadecimal behind 0x
+  --narrow  no number above 8 bits, nor an address above 16
+  --small   for a machine with 64 kB";
+
+fn number(text: &str) -> Option<u64> {
+    match text.strip_prefix("0x") {
+        Some(digits) => u64::from_str_radix(digits, 16).ok(),
+        None => text.parse().ok(),
+    }
+}
+
+fn options(arguments: &[String]) -> Option<Options> {
+    let [count, seed, switches @ ..] = arguments else {
+        return None;
+    };
+    let mut options = Options {
+        count: number(count).filter(|&count| count >= 100)? as usize,
+        seed: number(seed)?,
+        width: Width::Wide,
+        is_small: false,
+    };
+    for switch in switches {
+        match switch.as_str() {
+            "--narrow" => options.width = Width::Narrow,
+            "--small" => options.is_small = true,
+            _ => return None,
+        }
+    }
+    Some(options)
+}
+
+fn write(table: Table) -> std::io::Result<()> {
+    let calls = table.count();
+    let octets = table.into_octets();
+    std::io::stdout().lock().write_all(&octets)?;
+    eprintln!("{calls} calls in {} octets", octets.len());
+    Ok(())
+}
+
+fn main() -> ExitCode {
+    let arguments: Vec<String> = std::env::args().skip(1).collect();
+    let Some(options) = options(&arguments) else {
+        eprintln!("{USAGE}");
+        return ExitCode::from(2);
+    };
+    match write(table(options)) {
+        Ok(()) => ExitCode::SUCCESS,
+        Err(error) => {
+            eprintln!("calls: {error}");
+            ExitCode::FAILURE
+        }
+    }
+}

@@ -1,0 +1,177 @@
+//! What a table has: rounds, in which every function has its share of the calls.
+
+use crate::call::{Argument, Call, Function, Lent, FUNCTIONS};
+use crate::frames;
+use crate::generator::Generator;
+use crate::numbers::Width;
+use crate::plans::{Extent, Plan, Stores, MOST_OWN, MOST_PROJECT};
+use crate::table::Table;
+use crate::traffic::Series;
+use crate::writes;
+
+#[derive(Clone, Copy, Debug)]
+pub struct Options {
+    pub count: usize,
+    pub seed: u64,
+    pub width: Width,
+    /// For a machine with 64 kB: at most 96 couplers in a site and one table in a store.
+    pub is_small: bool,
+}
+
+/// Long enough for a store and a filter table to be used many times before others are sent.
+const ROUND: usize = 400;
+/// The least calls for a share of every function.
+pub const LEAST: usize = 100;
+
+/// Of a hundred calls, by function.
+const SHARES: [usize; FUNCTIONS] = [6, 11, 10, 9, 9, 9, 9, 19, 9, 9];
+
+const COUPLERS_OF_A_ROUND: usize = 2;
+const SITES_OF_A_ROUND: usize = 18;
+
+/// The stores of the first rounds, in tables: each as large as it may be, and larger.
+const LARGE_STORES: [[usize; 2]; 4] = [
+    [MOST_PROJECT, 1],
+    [1, MOST_OWN],
+    [MOST_PROJECT + 1, 1],
+    [1, MOST_OWN + 1],
+];
+
+pub fn table(options: Options) -> Table {
+    assert!(options.count >= LEAST, "at least {LEAST} calls");
+    let mut writer = Writer {
+        options,
+        generator: Generator::new(options.seed),
+        table: Table::default(),
+        rounds: 0,
+    };
+    while writer.table.count() < options.count {
+        let left = options.count - writer.table.count();
+        // No round is left over that is too short for every function.
+        let calls = if left < ROUND + LEAST { left } else { ROUND };
+        writer.round(calls);
+    }
+    writer.table
+}
+
+struct Writer {
+    options: Options,
+    generator: Generator,
+    table: Table,
+    rounds: usize,
+}
+
+impl Writer {
+    fn round(&mut self, calls: usize) {
+        let mut shares = SHARES.map(|share| share * calls / 100);
+        shares[Function::Tp1Read as usize] += calls - shares.iter().sum::<usize>();
+        let share = |function| shares[function as usize];
+        for _ in 0..share(Function::CheckOctet) {
+            self.read(Function::CheckOctet);
+        }
+        for function in [Function::Tp1Read, Function::CemiRead, Function::RoutingRead] {
+            for _ in 0..share(function) {
+                self.read(function);
+            }
+        }
+        for function in [
+            Function::Tp1Write,
+            Function::CemiWrite,
+            Function::RoutingWrite,
+        ] {
+            for _ in 0..share(function) {
+                let call = writes::some_write(&mut self.generator, function, self.options.width);
+                self.table.add(&call);
+            }
+        }
+        self.steps(share(Function::Step));
+        self.sites(share(Function::Trace), share(Function::Why));
+        self.rounds += 1;
+    }
+
+    fn read(&mut self, function: Function) {
+        let generator = &mut self.generator;
+        let octets = match (generator.below(64), function) {
+            (0, _) => Lent::Null,
+            (1, _) => Vec::new().into(),
+            (_, Function::Tp1Read) => frames::some_tp1(generator).into(),
+            (_, Function::CemiRead) => frames::some_cemi(generator).into(),
+            (_, Function::RoutingRead) => frames::some_routing(generator).into(),
+            _ => {
+                let length = generator.below(300);
+                generator.octets(length).into()
+            }
+        };
+        self.table.add(&Call {
+            function,
+            arguments: vec![Argument::Octets(octets)],
+        });
+    }
+
+    /// Couplers, each with nothing remembered at first and with other settings now and then.
+    fn steps(&mut self, steps: usize) {
+        let generator = &mut self.generator;
+        for part in 0..COUPLERS_OF_A_ROUND {
+            let mut series = Series::new(generator, self.options.width);
+            for _ in 0..portion(steps, part, COUPLERS_OF_A_ROUND) {
+                match generator.below(40) {
+                    0 => series.spoil_size(generator),
+                    1..6 => series.set(generator),
+                    _ => {}
+                }
+                let answer = self.table.add(&series.step(generator));
+                series.keep(&answer.rooms[0]);
+            }
+        }
+    }
+
+    fn sites(&mut self, traces: usize, whys: usize) {
+        let tables = self.tables();
+        let generator = &mut self.generator;
+        let width = self.options.width;
+        let stores = Stores::new(generator, tables);
+        for part in 0..SITES_OF_A_ROUND {
+            let plan = Plan::new(generator, &stores, extent(self.options));
+            for _ in 0..portion(traces, part, SITES_OF_A_ROUND) {
+                let query = plan.query(generator, width);
+                self.table.add(&plan.trace(generator, &query));
+            }
+            for _ in 0..portion(whys, part, SITES_OF_A_ROUND) {
+                let query = plan.query(generator, width);
+                self.table.add(&plan.why(generator, &query, width));
+            }
+        }
+    }
+
+    /// How many tables the two stores of a round have.
+    fn tables(&mut self) -> [usize; 2] {
+        let most = extent(self.options).tables;
+        let large = match self.generator.below(512) {
+            place @ 0..4 => Some(place),
+            _ => self.rounds.checked_sub(1),
+        };
+        let large = large.and_then(|place| LARGE_STORES.get(place));
+        match large {
+            Some(&large) if !self.options.is_small => large,
+            _ => [0; 2].map(|_: usize| self.generator.below(most + 1)),
+        }
+    }
+}
+
+fn extent(options: Options) -> Extent {
+    match options.is_small {
+        true => Extent {
+            couplers: 96,
+            tables: 1,
+        },
+        false => Extent {
+            couplers: 255,
+            tables: 3,
+        },
+    }
+}
+
+/// A part's calls where all are shared out evenly.
+fn portion(all: usize, part: usize, parts: usize) -> usize {
+    all * (part + 1) / parts - all * part / parts
+}

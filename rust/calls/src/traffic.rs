@@ -1,0 +1,252 @@
+//! Series of steps: settings kept for a series, frames from a few addresses, so that repetitions come
+//! about, and now and then something wrong in any of them.
+
+use crate::answer::{MEMORY_SIZE, SETTINGS_SIZE};
+use crate::call::{Argument, Call, Function, Lent};
+use crate::frames;
+use crate::generator::Generator;
+use crate::numbers::{outside, Width};
+use reference::coupler::{ROOM_SIZE, TABLE_SIZE};
+use reference::Given;
+
+const MEDIUM: usize = 9;
+
+/// Group or not, and destination.
+type Address = (u8, u16);
+
+/// One coupler, and what is heard on its two sides.
+pub struct Series {
+    width: Width,
+    line: u8,
+    settings: [u8; SETTINGS_SIZE],
+    /// The coupler's filter table, and what is lent for it.
+    table: Lent,
+    lent_table: Lent,
+    sources: [u16; 2],
+    addresses: [Address; 4],
+    /// The numbers and payload of the frame before.
+    previous: (Given, Vec<u8>),
+    memory: Vec<u8>,
+}
+
+impl Series {
+    pub fn new(generator: &mut Generator, width: Width) -> Series {
+        let line = some_line(generator);
+        let addresses = [0; 4].map(|_| some_address(generator, line));
+        let mut series = Series {
+            width,
+            line,
+            settings: [0; SETTINGS_SIZE],
+            table: some_table(generator, TABLE_SIZE, &addresses).into(),
+            lent_table: Lent::Null,
+            sources: [generator.field(), generator.field()],
+            addresses,
+            previous: (frames::some_given(generator), vec![0]),
+            memory: vec![0; MEMORY_SIZE],
+        };
+        series.set(generator);
+        series
+    }
+
+    /// Other settings of the same coupler: codes and medium. In one case of six something is wrong
+    /// with them. The filter table is another one only where it is wrong, since it is large.
+    pub fn set(&mut self, generator: &mut Generator) {
+        let has_table = generator.below(6) > 0;
+        let mut settings = [0; SETTINGS_SIZE].map(|_: u8| generator.below(3) as u8);
+        settings[0] = self.line;
+        settings[MEDIUM] = generator.one_of(&[0, 1, 1]);
+        for (broadcast, groups) in [(2, 3..5), (6, 7..9)] {
+            settings[broadcast] &= 2;
+            if !has_table {
+                settings[groups].iter_mut().for_each(|code| *code &= 2);
+            }
+        }
+        self.settings = settings;
+        self.lent_table = match has_table {
+            true => self.table.clone(),
+            false => Lent::Null,
+        };
+        if generator.one_in(6) {
+            self.spoil(generator);
+        }
+    }
+
+    fn spoil(&mut self, generator: &mut Generator) {
+        match generator.below(5) {
+            0 => self.settings[0] = 0,
+            1 => self.settings[1 + generator.below(8)] = generator.octet() | 3,
+            2 => self.settings[generator.one_of(&[2, 6])] = 1,
+            3 => {
+                self.settings[generator.one_of(&[3, 4, 7, 8])] = 1;
+                self.lent_table = Lent::Null;
+            }
+            _ => {
+                let length = generator.one_of(&[0, 1, TABLE_SIZE - 1]);
+                self.settings[3] = 1;
+                self.lent_table = some_table(generator, length, &self.addresses).into();
+            }
+        }
+    }
+
+    /// What the last step left.
+    pub fn keep(&mut self, memory: &[u8]) {
+        if memory.len() == MEMORY_SIZE {
+            self.memory.copy_from_slice(memory);
+        }
+    }
+
+    /// A size that no step leaves: of no frame, or of less than one.
+    pub fn spoil_size(&mut self, generator: &mut Generator) {
+        let size = match generator.below(3) {
+            0 => 264,
+            1 => 264 + generator.below(65_536 - 264),
+            _ => 1 + generator.below(7),
+        };
+        let start = generator.one_of(&[0, MEMORY_SIZE / 2]);
+        self.memory[start..][..2].copy_from_slice(&(size as u16).to_be_bytes());
+    }
+
+    pub fn step(&mut self, generator: &mut Generator) -> Call {
+        self.next_frame(generator);
+        let side = generator.below(2) as u32;
+        let octets = self.some_octets(generator, side);
+        let mut lent = Spoiled {
+            settings: self.settings.to_vec(),
+            side,
+            memory: self.memory.clone(),
+            room: generator.one_of(&[ROOM_SIZE, 300]),
+        };
+        if generator.one_in(6) {
+            lent.spoil(generator, self.width);
+        }
+        Call {
+            function: Function::Step,
+            arguments: vec![
+                Argument::Octets(lent.settings.into()),
+                Argument::Octets(self.lent_table.clone()),
+                Argument::Number(lent.side),
+                Argument::Room(lent.memory.into()),
+                Argument::Octets(octets),
+                Argument::Room(Lent::Filled {
+                    length: lent.room,
+                    octet: generator.octet(),
+                }),
+            ],
+        }
+    }
+
+    /// A frame or a datagram as the side has it, seldom the other; in one case of three damaged.
+    fn some_octets(&self, generator: &mut Generator, side: u32) -> Lent {
+        let (given, payload) = &self.previous;
+        let damaged = generator.one_in(3);
+        if (side == 0 && self.settings[MEDIUM] == 1) != generator.one_in(64) {
+            let mut octets = frames::routing(generator, given, payload);
+            if damaged {
+                frames::damage_routing(generator, &mut octets);
+            }
+            return octets.into();
+        }
+        let mut octets = frames::tp1(given, payload);
+        match (damaged, generator.below(16)) {
+            (true, 0) => return Lent::Null,
+            (true, _) => frames::damage_tp1(generator, &mut octets),
+            _ => {}
+        }
+        octets.into()
+    }
+
+    /// A new frame, or the one before with nothing, or little, changed.
+    fn next_frame(&mut self, generator: &mut Generator) {
+        let source = generator.one_of(&self.sources);
+        let (group, destination) = generator.one_of(&self.addresses);
+        let (given, payload) = &mut self.previous;
+        match generator.below(12) {
+            0 | 1 => given.first_sending = 0,
+            2 => given.first_sending = 1,
+            3 => given.count = generator.below(8) as u8,
+            4 => {
+                given.first_sending = 0;
+                payload[0] ^= generator.damage();
+            }
+            _ => {
+                *given = Given {
+                    source,
+                    group,
+                    destination,
+                    ..frames::some_given(generator)
+                };
+                *payload = frames::some_payload(generator, given);
+            }
+        }
+    }
+}
+
+/// What a step is lent and may be lent wrongly.
+struct Spoiled {
+    settings: Vec<u8>,
+    side: u32,
+    memory: Vec<u8>,
+    room: usize,
+}
+
+impl Spoiled {
+    /// Numbers outside their ranges and lengths too small or too large, one or several.
+    fn spoil(&mut self, generator: &mut Generator, width: Width) {
+        for _ in 0..1 + generator.below(4) / 3 {
+            match generator.below(8) {
+                0 | 1 => self.side = outside(generator, width, self.side, 1),
+                2 => {
+                    if let Some(medium) = self.settings.get_mut(MEDIUM) {
+                        *medium = generator.one_of(&[2, 255]);
+                    }
+                }
+                3 | 4 => self.room = generator.one_of(&[0, ROOM_SIZE - 1, ROOM_SIZE - 1]),
+                5 | 6 => {
+                    let length = generator.one_of(&[0, MEMORY_SIZE - 1, MEMORY_SIZE + 1]);
+                    self.memory.resize(length, 0);
+                }
+                _ => {
+                    let length = generator.one_of(&[0, SETTINGS_SIZE - 1, SETTINGS_SIZE + 1]);
+                    self.settings.resize(length, 0);
+                }
+            }
+        }
+    }
+}
+
+/// Lines of area 0, area couplers, the last line, any.
+fn some_line(generator: &mut Generator) -> u8 {
+    match generator.below(8) {
+        0 | 1 => 1 + generator.below(15) as u8,
+        2 | 3 => (1 + generator.below(15) as u8) << 4,
+        4 => 0xff,
+        _ => generator.damage(),
+    }
+}
+
+/// Around the coupler's own address, on and off its line and area; groups around their borders.
+fn some_address(generator: &mut Generator, line: u8) -> Address {
+    let (own, any) = (u16::from(line) << 8, generator.field());
+    let (on_line, in_area) = (own | any & 0xff, own & 0xf000 | any & 0xfff);
+    let individual = [own, own, on_line, in_area, any, 0, own & 0xf000];
+    let group = [0, 0, 1, any & 0xfff, 0x6fff, 0x7000, 0xffff, any, own];
+    match generator.below(2) {
+        0 => (0, generator.one_of(&individual)),
+        _ => (1, generator.one_of(&group)),
+    }
+}
+
+/// Few bits or many or by chance, where half of the addresses in use are listed.
+fn some_table(generator: &mut Generator, length: usize, addresses: &[Address]) -> Vec<u8> {
+    let mut table = match generator.below(3) {
+        0 => vec![0; length],
+        1 => vec![0xff; length],
+        _ => generator.octets(length),
+    };
+    for &(_, address) in addresses {
+        if let Some(octet) = table.get_mut(usize::from(address / 8)) {
+            *octet ^= (generator.below(2) as u8) << (address % 8);
+        }
+    }
+    table
+}
