@@ -9,10 +9,11 @@ use std::collections::BTreeSet;
 
 /// As tools/check-boards asks for it.
 const SHORT: Options = Options {
-    count: 4000,
+    count: 5000,
     seed: 0x4b6c_756d_6472_6179,
     width: Width::Wide,
     is_small: false,
+    wrong: None,
 };
 
 const SMALL: Options = Options {

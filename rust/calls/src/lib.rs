@@ -19,4 +19,4 @@ mod writes;
 
 pub use numbers::Width;
 pub use rounds::{table, Options};
-pub use table::Table;
+pub use table::{Table, Wrong};

@@ -1,14 +1,15 @@
-//! calls COUNT SEED [--narrow] [--small] > FILE
+//! calls COUNT SEED [--narrow] [--small] [--wrong WHAT] > FILE
 
-use calls::{table, Options, Table, Width};
+use calls::{table, Options, Table, Width, Wrong};
 use std::io::Write;
 use std::process::ExitCode;
 
-const USAGE: &str = "usage: calls COUNT SEED [--narrow] [--small] > FILE
+const USAGE: &str = "usage: calls COUNT SEED [--narrow] [--small] [--wrong WHAT] > FILE
   COUNT     how many calls, 100 at least
   SEED      a number, hexadecimal behind 0x
   --narrow  no number above 8 bits, nor an address above 16
-  --small   for a machine with 64 kB";
+  --small   for a machine with 64 kB
+  --wrong   with one thing wrong, to try a player: answer, room, count or function";
 
 fn number(text: &str) -> Option<u64> {
     match text.strip_prefix("0x") {
@@ -26,15 +27,28 @@ fn options(arguments: &[String]) -> Option<Options> {
         seed: number(seed)?,
         width: Width::Wide,
         is_small: false,
+        wrong: None,
     };
-    for switch in switches {
+    let mut switches = switches.iter();
+    while let Some(switch) = switches.next() {
         match switch.as_str() {
             "--narrow" => options.width = Width::Narrow,
             "--small" => options.is_small = true,
+            "--wrong" => options.wrong = Some(wrong(switches.next()?)?),
             _ => return None,
         }
     }
     Some(options)
+}
+
+fn wrong(text: &str) -> Option<Wrong> {
+    match text {
+        "answer" => Some(Wrong::Answer),
+        "room" => Some(Wrong::Room),
+        "count" => Some(Wrong::Count),
+        "function" => Some(Wrong::Function),
+        _ => None,
+    }
 }
 
 fn write(table: Table) -> std::io::Result<()> {

@@ -221,7 +221,8 @@ impl<'a> Plan<'a> {
     fn some_destination(&self, generator: &mut Generator, kind: u32) -> u16 {
         let any = generator.field();
         let own = u16::from(self.some_line(generator)) << 8;
-        let individual = [own, own, own | any & 0xff, own & 0xf000 | any & 0xfff, any];
+        let (on_line, in_area) = (own | any & 0xff, own & 0xf000 | any & 0xfff);
+        let individual = [own, own, on_line, on_line, in_area, any];
         let group = generator.one_of(&self.stores.groups);
         match kind {
             0 => generator.one_of(&individual),
@@ -258,26 +259,42 @@ impl<'a> Plan<'a> {
         }
     }
 
-    /// About a line of the site, or the destination's, or near the starting line, or any.
+    /// About a line beside the starting line, or of the site, or the destination's, or any.
     pub fn why(&self, generator: &mut Generator, query: &[u32; 4], width: Width) -> Call {
-        let &[start, kind, destination, _] = query;
+        let &[mut start, kind, destination, count] = query;
         let high = destination >> 8 & 0xff;
-        let start = start & 0xff;
-        let mut line = match generator.below(4) {
-            _ if kind == 0 && generator.one_in(3) => high,
-            0 => generator.one_of(&[0x00, start & 0xf0, start ^ 1, start]),
-            1 => generator.one_of(&[high, high & 0xf0]),
+        let mut line = match generator.below(6) {
+            0..3 if start < 256 => {
+                let by = match kind == 0 && generator.one_in(2) {
+                    true => high,
+                    false => self.some_line(generator).into(),
+                };
+                let sides = some_sides(generator, by);
+                start = sides[0];
+                sides[1]
+            }
+            3 => generator.one_of(&[high, high & 0xf0]),
+            4 => generator.one_of(&[0x00, start & 0xf0, start & 0xff]),
             _ => self.some_line(generator).into(),
         };
         if generator.one_in(24) {
             line = outside(generator, width, line, 255);
         }
-        let mut arguments = self.arguments(query);
+        let mut arguments = self.arguments(&[start, kind, destination, count]);
         arguments.push(Argument::Number(line));
         Call {
             function: Function::Why,
             arguments,
         }
+    }
+}
+
+/// The two sides of a coupler, in either order.
+fn some_sides(generator: &mut Generator, sub: u32) -> [u32; 2] {
+    let main = if sub & 0x0f > 0 { sub & 0xf0 } else { 0x00 };
+    match generator.below(2) {
+        0 => [main, sub],
+        _ => [sub, main],
     }
 }
 

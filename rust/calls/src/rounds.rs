@@ -5,7 +5,7 @@ use crate::frames;
 use crate::generator::Generator;
 use crate::numbers::Width;
 use crate::plans::{Extent, Plan, Stores, MOST_OWN, MOST_PROJECT};
-use crate::table::Table;
+use crate::table::{Table, Wrong};
 use crate::traffic::Series;
 use crate::writes;
 
@@ -14,8 +14,9 @@ pub struct Options {
     pub count: usize,
     pub seed: u64,
     pub width: Width,
-    /// For a machine with 64 kB: at most 96 couplers in a site and one table in a store.
+    /// For a machine with 64 kB: at most 80 couplers in a site and one table in a store.
     pub is_small: bool,
+    pub wrong: Option<Wrong>,
 }
 
 /// Long enough for a store and a filter table to be used many times before others are sent.
@@ -51,6 +52,9 @@ pub fn table(options: Options) -> Table {
         let calls = if left < ROUND + LEAST { left } else { ROUND };
         writer.round(calls);
     }
+    if let Some(wrong) = options.wrong {
+        writer.table.spoil(wrong);
+    }
     writer.table
 }
 
@@ -64,6 +68,9 @@ struct Writer {
 impl Writer {
     fn round(&mut self, calls: usize) {
         let mut shares = SHARES.map(|share| share * calls / 100);
+        if self.options.wrong == Some(Wrong::Function) {
+            shares[Function::Why as usize] = 0;
+        }
         shares[Function::Tp1Read as usize] += calls - shares.iter().sum::<usize>();
         let share = |function| shares[function as usize];
         for _ in 0..share(Function::CheckOctet) {
@@ -146,11 +153,10 @@ impl Writer {
     /// How many tables the two stores of a round have.
     fn tables(&mut self) -> [usize; 2] {
         let most = extent(self.options).tables;
-        let large = match self.generator.below(512) {
-            place @ 0..4 => Some(place),
-            _ => self.rounds.checked_sub(1),
+        let large = match self.rounds {
+            round @ 1..=4 => LARGE_STORES.get(round - 1),
+            _ => LARGE_STORES.get(self.generator.below(512)),
         };
-        let large = large.and_then(|place| LARGE_STORES.get(place));
         match large {
             Some(&large) if !self.options.is_small => large,
             _ => [0; 2].map(|_: usize| self.generator.below(most + 1)),
@@ -161,7 +167,7 @@ impl Writer {
 fn extent(options: Options) -> Extent {
     match options.is_small {
         true => Extent {
-            couplers: 96,
+            couplers: 80,
             tables: 1,
         },
         false => Extent {

@@ -13,6 +13,19 @@ const KEPT: u8 = 1;
 const FILLED: u8 = 2;
 const SENT: u8 = 3;
 
+/// What is wrong with a table on purpose: a machine that plays it has to see it.
+#[derive(Clone, Copy, Debug, PartialEq, Eq)]
+pub enum Wrong {
+    /// The highest octet of the last answer.
+    Answer,
+    /// One octet of a room.
+    Room,
+    /// One call more than there are.
+    Count,
+    /// A function that is not called.
+    Function,
+}
+
 /// Calls with their answers, and what came of them.
 pub struct Table {
     count: u32,
@@ -23,6 +36,9 @@ pub struct Table {
     most: [usize; PLACES],
     /// How often each function gave each number.
     pub numbers: [[u64; 19]; FUNCTIONS],
+    /// Where the last answer ends, and the last octets of a room that were told.
+    end_of_answer: usize,
+    end_of_room: usize,
 }
 
 impl Default for Table {
@@ -33,6 +49,8 @@ impl Default for Table {
             held: [const { None }; PLACES],
             most: [0; PLACES],
             numbers: [[0; 19]; FUNCTIONS],
+            end_of_answer: 0,
+            end_of_room: 0,
         }
     }
 }
@@ -53,6 +71,7 @@ impl Table {
             }
         }
         self.octets.extend(answer.number.to_le_bytes());
+        self.end_of_answer = self.octets.len();
         let mut after = answer.rooms.iter();
         for (place, argument) in call.arguments.iter().enumerate() {
             if let Argument::Room(lent) = argument {
@@ -108,8 +127,21 @@ impl Table {
         self.octets.extend((start as u32).to_le_bytes());
         self.octets.extend(((end - start) as u32).to_le_bytes());
         self.octets.extend_from_slice(&room[start..end]);
+        if start < end {
+            self.end_of_room = self.octets.len();
+        }
         if !matches!(lent, Lent::Null) {
             self.held[place] = Some(room.to_vec());
+        }
+    }
+
+    pub fn spoil(&mut self, wrong: Wrong) {
+        match wrong {
+            Wrong::Answer => self.octets[self.end_of_answer - 1] ^= 1,
+            Wrong::Room => self.octets[self.end_of_room - 1] ^= 1,
+            Wrong::Count => self.count += 1,
+            // The calls are chosen so.
+            Wrong::Function => {}
         }
     }
 
@@ -204,6 +236,30 @@ mod tests {
         ];
         let expected = [&payload[..], &lent, &answer, &span, &frame].concat();
         assert_eq!(behind_numbers, expected);
+    }
+
+    #[test]
+    fn a_wrong_octet_is_the_only_one() {
+        let mut tables = [Table::default(), Table::default()];
+        let call = write(
+            vec![0].into(),
+            Lent::Filled {
+                length: 9,
+                octet: 0,
+            },
+        );
+        for table in &mut tables {
+            table.add(&call);
+        }
+        let [right, mut wrong] = tables;
+        wrong.spoil(Wrong::Answer);
+        wrong.spoil(Wrong::Room);
+        let (right, wrong) = (right.into_octets(), wrong.into_octets());
+        let differs = |&at: &usize| right[at] != wrong[at];
+        // The last octet of the frame, and the answer's before start, length and frame.
+        let end = right.len();
+        let places: Vec<usize> = (0..end).filter(differs).collect();
+        assert_eq!(places, [end - 8 - 8 - 1, end - 1]);
     }
 
     #[test]
