@@ -3,15 +3,11 @@
  * is not refused, one with the same frame marked repeated, and prints what happened. Without octets
  * it takes the telegram of a leak meter on line 4.7 that reports 21 litres to group 2/2/52.
  *
- * To build, from the root of the repository, after `rt staticlib klumdray`:
+ * To build, from the root of the repository, after `tools/library-for x86-64` (or aarch64, on such a
+ * machine):
  *
- *   gcc -std=c99 -pedantic -Wall -Wextra -Werror -I include examples/c/coupler.c \
- *       target/staticlib/libklumdray.a -o target/coupler
- *
- * Off x86-64, after `tools/emulate-library`, which puts an emulator in front of the library:
- *
- *   gcc -std=c99 -pedantic -Wall -Wextra -Werror -I include examples/c/coupler.c \
- *       target/emulated/libklumdray.a -o target/coupler
+ *   gcc -std=c99 -pedantic -Wall -Wextra -Wconversion -Werror -I include examples/c/coupler.c \
+ *       target/x86-64/libklumdray.a -o target/coupler
  *
  * To run: target/coupler, or target/coupler B0 AF FE 00 00 E1 01 00 FE
  * Exit status: 0; 1 if the frame is refused; 2 if the octets are not hexadecimal.
