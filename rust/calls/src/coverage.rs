@@ -2,7 +2,7 @@
 
 use crate::answer::Answer;
 use crate::call::{Function, FUNCTIONS};
-use crate::numbers::Width;
+use crate::numbers::{Width, MOST};
 use crate::reader::{kinds, Reader, ORDER};
 use crate::rounds::{table, Options};
 use std::collections::BTreeSet;
@@ -162,26 +162,34 @@ fn every_reason_comes() {
     }
 }
 
-/// Functions and places of the numbers above 8 bits, or 16 for an address.
-fn wide_places(options: Options) -> BTreeSet<(usize, usize)> {
+/// The largest number in its range of each function, in the order of its numbers.
+fn ranges(function: Function) -> &'static [u32] {
+    match function {
+        Function::CheckOctet | Function::Tp1Read | Function::CemiRead | Function::RoutingRead => {
+            &[]
+        }
+        Function::Tp1Write => &MOST,
+        Function::CemiWrite => &[0x2e, 1, 1, 1, 3, 65_535, 1, 65_535, 7],
+        Function::RoutingWrite => &[0x29, 0, 1, 1, 3, 65_535, 1, 65_535, 7],
+        Function::Step => &[1],
+        Function::Trace => &[255, 1, 65_535, 7],
+        Function::Why => &[255, 1, 65_535, 7, 255],
+    }
+}
+
+/// Functions and places of the numbers above their ranges: within 8 bits, or 16 for an address, and
+/// above those.
+fn outside_places(options: Options) -> [BTreeSet<(usize, usize)>; 2] {
     let octets = octets(options);
-    let mut places = BTreeSet::new();
+    let mut places = [BTreeSet::new(), BTreeSet::new()];
     for row in Reader::new(&octets) {
-        let addresses: &[usize] = match row.call.function {
-            Function::Tp1Write => &[3, 5],
-            Function::CemiWrite | Function::RoutingWrite => &[5, 7],
-            Function::Trace | Function::Why => &[2],
-            _ => &[],
-        };
+        let function = row.call.function;
         for (place, number) in row.call.numbers().into_iter().enumerate() {
-            let most = if addresses.contains(&place) {
-                65_535
-            } else {
-                255
-            };
+            let most = ranges(function)[place];
             if number > most {
-                assert_ne!(row.answer.number, 0);
-                places.insert((row.call.function as usize, place));
+                assert_ne!(row.answer.number as u8, 0);
+                let is_wide = number > if most > 255 { 65_535 } else { 255 };
+                places[usize::from(is_wide)].insert((function as usize, place));
             }
         }
     }
@@ -189,17 +197,27 @@ fn wide_places(options: Options) -> BTreeSet<(usize, usize)> {
 }
 
 #[test]
-fn every_number_is_once_above_its_bits_unless_narrow() {
-    let numbers = |function: &Function| kinds(*function).matches('n').count();
-    assert_eq!(
-        wide_places(SHORT).len(),
-        ORDER.iter().map(numbers).sum::<usize>()
-    );
+fn every_number_is_once_outside_its_range() {
+    let numbers: usize = ORDER.iter().map(|&function| ranges(function).len()).sum();
+    // Those that leave no number of 8 bits, or 16, outside: addresses and lines.
+    let full = |&&most: &&u32| most == 255 || most == 65_535;
+    let full: usize = ORDER
+        .iter()
+        .map(|&it| ranges(it).iter().filter(full).count())
+        .sum();
+    for options in [SHORT, SMALL] {
+        let [narrow, wide] = outside_places(options);
+        assert_eq!([narrow.len(), wide.len()], [numbers - full, numbers]);
+    }
+}
+
+#[test]
+fn no_number_of_a_narrow_table_is_wide() {
     let narrow = Options {
         width: Width::Narrow,
         ..SHORT
     };
-    assert!(wide_places(narrow).is_empty());
+    assert!(outside_places(narrow)[1].is_empty());
 }
 
 #[test]

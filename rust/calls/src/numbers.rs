@@ -19,6 +19,8 @@ pub fn outside(generator: &mut Generator, width: Width, right: u32, most: u32) -
         Width::Narrow => &[most + 1, narrow_end],
         Width::Wide => &[
             most + 1,
+            most + 1,
+            narrow_end,
             narrow_end,
             256 | right,
             65_536 | right,

@@ -197,7 +197,7 @@ impl<'a> Plan<'a> {
     }
 
     /// The numbers of a query, from a coupler's line or near the destination: start, kind,
-    /// destination, count. In one case of ten one of them may be outside its range.
+    /// destination, count. In one case of seven one of them may be outside its range.
     pub fn query(&self, generator: &mut Generator, width: Width) -> [u32; 4] {
         let kind = generator.one_of(&[0, 1, 1]);
         let destination = self.some_destination(generator, kind);
@@ -208,7 +208,7 @@ impl<'a> Plan<'a> {
         };
         let count = generator.one_of(&[0, 1, 2, 3, 4, 5, 6, 7, 5, 6, 7, 7]);
         let mut query = [start.into(), kind, destination.into(), count];
-        if generator.one_in(10) {
+        if generator.one_in(7) {
             let place = generator.below(4);
             let most = [255, 1, 65_535, 7][place];
             query[place] = outside(generator, width, query[place], most);
