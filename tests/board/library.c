@@ -21,15 +21,26 @@ static int are_words(const void *a, const void *b)
     return (((uintptr_t)a | (uintptr_t)b) & (sizeof(word) - 1)) == 0;
 }
 
+/* Whether both are at the same place of a word. */
+static int are_alike(const void *a, const void *b)
+{
+    return (((uintptr_t)a ^ (uintptr_t)b) & (sizeof(word) - 1)) == 0;
+}
+
 void *memcpy(void *to, const void *from, size_t n)
 {
     uint8_t *t = to;
     const uint8_t *f = from;
-    if ((((uintptr_t)t ^ (uintptr_t)f) & (sizeof(word) - 1)) == 0) {
-        for (; n > 0 && !are_words(t, f); n--)
-            *t++ = *f++;
-        for (; n >= sizeof(word); n -= sizeof(word), t += sizeof(word), f += sizeof(word))
-            *(word *)(void *)t = *(const word *)(const void *)f;
+    for (; n > 0 && are_alike(t, f) && !are_words(t, f); n--)
+        *t++ = *f++;
+    if (are_words(t, f)) {
+        word *words = (word *)(void *)t;
+        const word *others = (const word *)(const void *)f;
+        size_t whole = n / sizeof(word);
+        for (size_t i = 0; i < whole; i++)
+            words[i] = others[i];
+        t += whole * sizeof(word), f += whole * sizeof(word);
+        n %= sizeof(word);
     }
     while (n-- > 0)
         *t++ = *f++;
@@ -61,17 +72,26 @@ void *memset(void *to, int octet, size_t n)
     return to;
 }
 
+/* How many words are the same; four at a time, since stores of a megabyte are compared. */
+static size_t same_words(const word *a, const word *b, size_t n)
+{
+    size_t i = 0;
+    while (i + 4 <= n && ((a[i] ^ b[i]) | (a[i + 1] ^ b[i + 1]) | (a[i + 2] ^ b[i + 2]) |
+                          (a[i + 3] ^ b[i + 3])) == 0)
+        i += 4;
+    return i;
+}
+
 int memcmp(const void *a, const void *b, size_t n)
 {
     const uint8_t *x = a, *y = b;
-    if ((((uintptr_t)x ^ (uintptr_t)y) & (sizeof(word) - 1)) == 0) {
-        for (; n > 0 && !are_words(x, y) && *x == *y; n--)
-            x++, y++;
-        for (; n >= sizeof(word) && are_words(x, y); n -= sizeof(word)) {
-            if (*(const word *)(const void *)x != *(const word *)(const void *)y)
-                break;
-            x += sizeof(word), y += sizeof(word);
-        }
+    for (; n > 0 && are_alike(x, y) && !are_words(x, y) && *x == *y; n--)
+        x++, y++;
+    if (are_words(x, y)) {
+        size_t same = sizeof(word) * same_words((const word *)(const void *)x,
+                                                (const word *)(const void *)y, n / sizeof(word));
+        x += same, y += same;
+        n -= same;
     }
     for (; n > 0; n--, x++, y++)
         if (*x != *y)
