@@ -1,7 +1,7 @@
 -- The C surface. Each sentence of include/klumdray.h about a number that a call answers, a part of the caller's octets, the list in a room or
 -- the memory in a block, as a theorem of every answer that the call's contract allows. A decoder is what the header's helpers work out
--- (klumdray Decoding, specs). Premises are what the parameters' types give: octets are below 256. What becomes of numbers outside their ranges
--- says Given.
+-- (klumdray Decoding, specs). Premises are what the parameters' types give: octets are below 256. Given has what becomes
+-- of numbers outside their ranges.
 use Prim.Native.Nat.{ℕ, _+_, _≤_, _<_}
 use mathlib.Core.Bool.{Bool, true, false, cond, _&&_}
 use mathlib.Core.List.{List, [], _∷_}
