@@ -3,8 +3,9 @@
  *
  * Document 01 ("Frame layouts", "Refusal numbers", "The coupler", "Sites and the tracer") says what
  * each call does; each call is proved to do it for every input. So is what this file says of the
- * answers' bits, of the parts of the caller's octets, of the list in a trace's room and of the frame
- * in a step's memory, as the helpers at its end read them (crates/promises/proofs/Surface.antt).
+ * numbers' ranges (crates/promises/proofs/Given.antt), of the answers' bits, of the parts of the
+ * caller's octets, of the list in a trace's room and of the frame in a step's memory, as the helpers at
+ * its end read them (Surface.antt there), and of the test for an overlap (Overlap.antt).
  *
  * Octets. A slice is a pointer and then a length of 64 bits, on every machine; a null pointer with
  * length 0 is an empty slice. Otherwise the pointer must have that many octets behind it. All octets
