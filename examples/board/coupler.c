@@ -1,7 +1,8 @@
 /*
- * A coupler between two TP1 lines on a small board: line 4.7, on which a leak meter reports litres, and
- * its main line 4.0. No heap and no C library; settings and filter table stay in flash. In place of two
- * UARTs a table gives the octets that arrive, and what would be sent is told by the debugger.
+ * A coupler between two TP1 lines on a small board: line 4.7, on which a leak meter reports litres,
+ * and its main line 4.0. No heap and no C library; settings and filter table stay in flash. In
+ * place of two UARTs a table gives the octets that arrive, and what would be sent is told by the
+ * debugger.
  *
  * examples/board/run builds it for a Cortex-M4 with Debian's gcc-arm-none-eabi and runs it in QEMU.
  */
@@ -12,15 +13,16 @@
 
 enum { LINE = 0x47, LEAK_GROUP = 0x1234, MOST_STACK = 1024 };
 
-/* In flash. In both directions individual addresses by place, broadcast open, groups below 7000h by the
- * filter table; groups from 7000h on closed down, open up. */
-static const uint8_t settings[KLUMDRAY_SETTINGS_SIZE] = {LINE, 1, 2, 1, 0, 1, 2, 1, 2, KLUMDRAY_TP1};
+/* In flash. In both directions individual addresses by place, broadcast open, groups below 7000h
+ * by the filter table; groups from 7000h on closed down, open up. */
+static const uint8_t settings[KLUMDRAY_SETTINGS_SIZE] = {LINE, 1, 2, 1, 0, 1, 2, 1, 2,
+                                                         KLUMDRAY_TP1};
 static const uint8_t table[KLUMDRAY_TABLE_SIZE] = {[LEAK_GROUP / 8] = 1 << LEAK_GROUP % 8};
 
 /*
- * In RAM, three blocks that lie apart: what the coupler remembers, all 0 at the start; the frame being
- * received; the room for what is sent on. The buffer has one octet more than the longest frame, so that
- * a frame that is too long is refused (5) and not taken for one that was cut.
+ * In RAM, three blocks that lie apart: what the coupler remembers, all 0 at the start; the frame
+ * being received; the room for what is sent on. The buffer has one octet more than the longest
+ * frame, so that a frame that is too long is refused (5) and not taken for one that was cut.
  */
 static uint8_t memory[KLUMDRAY_MEMORY_SIZE];
 static uint8_t received[KLUMDRAY_FRAME_SIZE + 1];
@@ -35,7 +37,8 @@ struct arrival {
 };
 
 static const uint8_t litres[] = {0xBC, 0x47, 0x15, 0x12, 0x34, 0xE3, 0x00, 0x80, 0x0C, 0x1A, 0x42};
-static const uint8_t repeated[] = {0x9C, 0x47, 0x15, 0x12, 0x34, 0xE3, 0x00, 0x80, 0x0C, 0x1A, 0x62};
+static const uint8_t repeated[] = {0x9C, 0x47, 0x15, 0x12, 0x34, 0xE3,
+                                   0x00, 0x80, 0x0C, 0x1A, 0x62};
 static const uint8_t damaged[] = {0xBC, 0x47, 0x15, 0x12, 0x34, 0xE3, 0x00, 0x80, 0x0C, 0x1B, 0x42};
 static const uint8_t another[] = {0xBC, 0x47, 0x15, 0x12, 0x35, 0xE3, 0x00, 0x80, 0x0C, 0x1A, 0x43};
 static const uint8_t used_up[] = {0xBC, 0x47, 0x15, 0x12, 0x34, 0x83, 0x00, 0x80, 0x0C, 0x1A, 0x22};
@@ -134,6 +137,7 @@ int main(void)
     /* A room that is the receive buffer would be written while it is read. */
     say("the receive buffer lent as the room\n");
     act_on(step(KLUMDRAY_SUB, receive(&wire[0]), received), KLUMDRAY_SUB);
-    say(stack_used() < MOST_STACK ? "stack below 1,024 octets\n" : "stack of 1,024 octets or more\n");
+    say(stack_used() < MOST_STACK ? "stack below 1,024 octets\n"
+                                  : "stack of 1,024 octets or more\n");
     return stack_used() < MOST_STACK;
 }

@@ -1,7 +1,7 @@
 /*
- * What the library, and the compiler by itself, ask of a C library: here without one. On Arm the names
- * are those of its run-time ABI, where a set takes the length before the octet; the names that end with
- * 4 or 8 are for places of that alignment, and any place may be given to the others.
+ * What the library, and the compiler by itself, ask of a C library: here without one. On Arm the
+ * names are those of its run-time ABI, where a set takes the length before the octet; the names
+ * that end with 4 or 8 are for places of that alignment, and any place may be given to the others.
  */
 #include <stddef.h>
 

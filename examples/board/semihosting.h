@@ -1,6 +1,6 @@
 /*
- * What a debugger, or QEMU with -semihosting, does for a program on a board: Arm's semihosting, by its
- * breakpoint on Cortex-M and by its three instructions on RISC-V.
+ * What a debugger, or QEMU with -semihosting, does for a program on a board: Arm's semihosting, by
+ * its breakpoint on Cortex-M and by its three instructions on RISC-V.
  */
 #ifndef SEMIHOSTING_H
 #define SEMIHOSTING_H
@@ -49,7 +49,8 @@ static inline void say(const char *text)
 /* The program's end, well or badly: QEMU ends with status 0 or 1. */
 static inline void leave(int well)
 {
-    semihosting(SEMIHOSTING_EXIT, (uintptr_t)(well ? SEMIHOSTING_ENDED_WELL : SEMIHOSTING_ENDED_BADLY));
+    int how = well ? SEMIHOSTING_ENDED_WELL : SEMIHOSTING_ENDED_BADLY;
+    semihosting(SEMIHOSTING_EXIT, (uintptr_t)how);
 }
 
 #endif

@@ -1,6 +1,6 @@
 /*
- * What runs before main: data is copied from flash, the rest is cleared, and the stack is filled with a
- * pattern, so that afterwards it is seen how deep it went.
+ * What runs before main: data is copied from flash, the rest is cleared, and the stack is filled
+ * with a pattern, so that afterwards it is seen how deep it went.
  */
 #include <stdint.h>
 

@@ -1,8 +1,9 @@
 /*
- * The inputs over which the stack of each exported call is measured: the longest frames of both formats,
- * every direction of a step, refusals, and traces and explanations on a site of 255 couplers with filter
- * tables, over the longest path. Who includes this file measures one call by `lowest_of`, the lowest
- * place of the stack that a function without parameters comes to, and tells a figure by `tell_figure`.
+ * The inputs over which the stack of each exported call is measured: the longest frames of both
+ * formats, every direction of a step, refusals, and traces and explanations on a site of 255
+ * couplers with filter tables, over the longest path. Who includes this file measures one call by
+ * `lowest_of`, the lowest place of the stack that a function without parameters comes to, and tells
+ * a figure by `tell_figure`.
  */
 #ifndef INPUTS_H
 #define INPUTS_H

@@ -1,7 +1,7 @@
 /*
- * How much stack each exported call takes, on x86-64 Linux: it is run instruction by instruction and
- * the lowest stack pointer is kept, less that of an empty call. (Code for this machine may also use
- * the 128 octets below the stack pointer, which every stack has to leave free.)
+ * How much stack each exported call takes, on x86-64 Linux: it is run instruction by instruction
+ * and the lowest stack pointer is kept, less that of an empty call. (Code for this machine may also
+ * use the 128 octets below the stack pointer, which every stack has to leave free.)
  */
 #define _GNU_SOURCE
 #include <signal.h>

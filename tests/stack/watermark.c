@@ -1,8 +1,8 @@
 /*
- * How much stack each exported call takes: what lies below the stack pointer is filled with a pattern
- * before the call, and the lowest octet that no longer has it is kept, less that of an empty call. An
- * octet that a call only sets aside and never writes at its lowest end is not seen; docs/BOARDS.md has
- * the compiler's own figures beside these.
+ * How much stack each exported call takes: what lies below the stack pointer is filled with a
+ * pattern before the call, and the lowest octet that no longer has it is kept, less that of an
+ * empty call. An octet that a call only sets aside and never writes at its lowest end is not seen;
+ * docs/BOARDS.md has the compiler's own figures beside these.
  */
 #include <stdio.h>
 
@@ -22,7 +22,8 @@ static inline __attribute__((always_inline)) uintptr_t stack_pointer(void)
     return pointer;
 }
 
-/* No call is made between the filling and the call that is measured: all below the pointer is free. */
+/* No call is made between the filling and the call that is measured: all below the pointer is
+ * free. */
 __attribute__((noinline)) static uintptr_t lowest_over(void (*call)(void), uint8_t pattern)
 {
     volatile uint8_t *end = (volatile uint8_t *)stack_pointer(), *octet = end - DEPTH;
