@@ -72,6 +72,16 @@ impl Call {
         self.arguments.iter().filter_map(number).collect()
     }
 
+    /// One of the numbers, counted without the slices.
+    pub fn number_mut(&mut self, place: usize) -> &mut u32 {
+        let numbers = self.arguments.iter_mut();
+        let mut numbers = numbers.filter_map(|argument| match argument {
+            Argument::Number(number) => Some(number),
+            _ => None,
+        });
+        numbers.nth(place).expect("a number in this place")
+    }
+
     pub fn slices(&self) -> Vec<Cow<'_, [u8]>> {
         let mut slices = Vec::new();
         for argument in &self.arguments {

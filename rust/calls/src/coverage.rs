@@ -2,7 +2,7 @@
 
 use crate::answer::Answer;
 use crate::call::{Function, FUNCTIONS};
-use crate::numbers::{Width, MOST};
+use crate::numbers::{ranges, Width};
 use crate::reader::{kinds, Reader, ORDER};
 use crate::rounds::{table, Options};
 use std::collections::BTreeSet;
@@ -162,21 +162,6 @@ fn every_reason_comes() {
     }
 }
 
-/// The largest number in its range of each function, in the order of its numbers.
-fn ranges(function: Function) -> &'static [u32] {
-    match function {
-        Function::CheckOctet | Function::Tp1Read | Function::CemiRead | Function::RoutingRead => {
-            &[]
-        }
-        Function::Tp1Write => &MOST,
-        Function::CemiWrite => &[0x2e, 1, 1, 1, 3, 65_535, 1, 65_535, 7],
-        Function::RoutingWrite => &[0x29, 0, 1, 1, 3, 65_535, 1, 65_535, 7],
-        Function::Step => &[1],
-        Function::Trace => &[255, 1, 65_535, 7],
-        Function::Why => &[255, 1, 65_535, 7, 255],
-    }
-}
-
 /// Functions and places of the numbers above their ranges: within 8 bits, or 16 for an address, and
 /// above those.
 fn outside_places(options: Options) -> [BTreeSet<(usize, usize)>; 2] {
@@ -209,6 +194,31 @@ fn every_number_is_once_outside_its_range() {
         let [narrow, wide] = outside_places(options);
         assert_eq!([narrow.len(), wide.len()], [numbers - full, numbers]);
     }
+}
+
+/// A number above its bits, cut to them, would have been accepted: whoever cuts it is seen.
+#[test]
+fn every_cut_of_a_number_is_seen() {
+    let octets = octets(SHORT);
+    let mut cuts = BTreeSet::new();
+    for row in Reader::new(&octets) {
+        let function = row.call.function;
+        for (place, &most) in ranges(function).iter().enumerate() {
+            let bits = if most > 255 { 65_535 } else { 255 };
+            let mut call = row.call.clone();
+            let number = call.number_mut(place);
+            if *number > bits {
+                let is_next = *number == bits + 1;
+                *number &= bits;
+                if Answer::of(&call).number != row.answer.number {
+                    cuts.insert((function as usize, place, is_next));
+                }
+            }
+        }
+    }
+    let numbers: usize = ORDER.iter().map(|&function| ranges(function).len()).sum();
+    // 256 for a message code is 0 if cut, which is none either.
+    assert_eq!(cuts.len(), 2 * numbers - 2);
 }
 
 #[test]

@@ -145,19 +145,18 @@ fn damage_cemi(generator: &mut Generator, octets: &mut Vec<u8>, start: usize) {
     let place = start + generator.below(octets.len() - start);
     let ctrl1 = start + 2 + usize::from(octets[start + 1]);
     let damage = generator.damage();
-    match generator.below(14) {
-        0 => octets.truncate(place),
+    match generator.below(12) {
+        0 => octets.truncate(generator.one_of(&[place, start, start + 1, start + 2])),
         1 => octets.push(damage),
         2 => octets[place] ^= damage,
-        3 | 4 => octets[start] = generator.one_of(&[0x11, 0x2e, 0x29, damage]),
-        5 => octets[start + 1] = 255,
+        3 => octets[start] = generator.one_of(&[0x11, 0x2e, damage, damage]),
+        4 | 5 => octets[start + 1] = 255,
         6 => octets[start + 1] ^= damage,
-        7 | 8 => octets[ctrl1 + 1] |= damage & 0x0f,
-        9 => octets[ctrl1 + 6] = 255,
-        10 => octets[ctrl1 + 6] ^= damage,
-        11 => octets[ctrl1] ^= 0x80,
-        12 => octets[ctrl1 + generator.below(7)] ^= damage,
-        _ => octets.truncate(start + generator.below(3)),
+        7 => octets[ctrl1 + 1] |= damage & 0x0f,
+        8 => octets[ctrl1 + 6] = 255,
+        9 => octets[ctrl1 + 6] ^= damage,
+        10 => octets[ctrl1] ^= 0x80,
+        _ => octets[ctrl1 + generator.below(7)] ^= damage,
     }
     if start > 0 && generator.below(4) > 0 {
         mend_total(octets);

@@ -199,7 +199,7 @@ impl<'a> Plan<'a> {
     /// The numbers of a query, from a coupler's line or near the destination: start, kind,
     /// destination, count. In one case of seven one of them may be outside its range.
     pub fn query(&self, generator: &mut Generator, width: Width) -> [u32; 4] {
-        let kind = generator.one_of(&[0, 1, 1]);
+        let kind = generator.below(2) as u32;
         let destination = self.some_destination(generator, kind);
         let [high, _] = destination.to_be_bytes();
         let start = match (kind, generator.below(2)) {

@@ -1,9 +1,10 @@
 //! What a table has: rounds, in which every function has its share of the calls.
 
+use crate::answer::Answer;
 use crate::call::{Argument, Call, Function, Lent, FUNCTIONS};
 use crate::frames;
 use crate::generator::Generator;
-use crate::numbers::Width;
+use crate::numbers::{all_outside, ranges, Width};
 use crate::plans::{Extent, Plan, Stores, MOST_OWN, MOST_PROJECT};
 use crate::table::{Table, Wrong};
 use crate::traffic::Series;
@@ -24,10 +25,23 @@ const ROUND: usize = 400;
 /// The least calls for a share of every function.
 pub const LEAST: usize = 100;
 
+/// From so many calls on, a table begins with each number at each place outside its range.
+const LEAST_WITH_NUMBERS: usize = 2000;
+
 /// Of a hundred calls, by function.
 const SHARES: [usize; FUNCTIONS] = [6, 11, 10, 9, 9, 9, 9, 19, 9, 9];
 
-const COUPLERS_OF_A_ROUND: usize = 2;
+/// The functions that take numbers.
+const WITH_NUMBERS: [Function; 6] = [
+    Function::Tp1Write,
+    Function::CemiWrite,
+    Function::RoutingWrite,
+    Function::Step,
+    Function::Trace,
+    Function::Why,
+];
+
+const COUPLERS_OF_A_ROUND: usize = 3;
 const SITES_OF_A_ROUND: usize = 18;
 
 /// The stores of the first rounds, in tables: each as large as it may be, and larger.
@@ -46,6 +60,9 @@ pub fn table(options: Options) -> Table {
         table: Table::default(),
         rounds: 0,
     };
+    if options.count >= LEAST_WITH_NUMBERS {
+        writer.numbers_outside();
+    }
     while writer.table.count() < options.count {
         let left = options.count - writer.table.count();
         // No round is left over that is too short for every function.
@@ -94,6 +111,48 @@ impl Writer {
         self.steps(share(Function::Step));
         self.sites(share(Function::Trace), share(Function::Why));
         self.rounds += 1;
+    }
+
+    /// Calls that would be accepted but for one number, which is outside its range in every way.
+    fn numbers_outside(&mut self) {
+        for function in WITH_NUMBERS {
+            for (number, &most) in ranges(function).iter().enumerate() {
+                let ways = all_outside(self.options.width, 0, most).len();
+                for way in 0..ways {
+                    let mut call = self.accepted(function);
+                    let given = call.number_mut(number);
+                    *given = all_outside(self.options.width, *given, most)[way];
+                    self.table.add(&call);
+                }
+            }
+        }
+    }
+
+    /// A call that the reference does not refuse; of a writer, with a payload for both formats.
+    fn accepted(&mut self, function: Function) -> Call {
+        let (generator, width) = (&mut self.generator, self.options.width);
+        let stores = Stores::new(generator, [1, 1]);
+        loop {
+            let call = match function {
+                Function::Step => Series::new(generator, width).step(generator),
+                Function::Trace | Function::Why => {
+                    let plan = Plan::new(generator, &stores, extent(self.options));
+                    let query = plan.query(generator, width);
+                    match function {
+                        Function::Trace => plan.trace(generator, &query),
+                        _ => plan.why(generator, &query, width),
+                    }
+                }
+                _ => writes::some_write(generator, function, width),
+            };
+            let fits_both = match call.slices().as_slice() {
+                [payload] => payload.len() <= 16,
+                _ => true,
+            };
+            if fits_both && Answer::of(&call).number as u8 == 0 {
+                return call;
+            }
+        }
     }
 
     fn read(&mut self, function: Function) {

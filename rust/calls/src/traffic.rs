@@ -24,8 +24,9 @@ pub struct Series {
     lent_table: Lent,
     sources: [u16; 2],
     addresses: [Address; 4],
-    /// The numbers and payload of the frame before.
+    /// The numbers and payload of the frame before, and its side.
     previous: (Given, Vec<u8>),
+    side: u32,
     memory: Vec<u8>,
 }
 
@@ -42,6 +43,7 @@ impl Series {
             sources: [generator.field(), generator.field()],
             addresses,
             previous: (frames::some_given(generator), vec![0]),
+            side: 0,
             memory: vec![0; MEMORY_SIZE],
         };
         series.set(generator);
@@ -108,11 +110,13 @@ impl Series {
 
     pub fn step(&mut self, generator: &mut Generator) -> Call {
         self.next_frame(generator);
-        let side = generator.below(2) as u32;
-        let octets = self.some_octets(generator, side);
+        if generator.one_in(3) {
+            self.side ^= 1;
+        }
+        let octets = self.some_octets(generator, self.side);
         let mut lent = Spoiled {
             settings: self.settings.to_vec(),
-            side,
+            side: self.side,
             memory: self.memory.clone(),
             room: generator.one_of(&[ROOM_SIZE, 300]),
         };
