@@ -27,7 +27,7 @@ pub fn some_payload(generator: &mut Generator, given: &Given) -> Vec<u8> {
     let most = if given.extended == 1 { 255 } else { 16 };
     let length = match generator.below(8) {
         0 => 1,
-        1 => most,
+        1 | 2 => most,
         _ => 1 + generator.below(most),
     };
     generator.octets(length)
@@ -109,26 +109,47 @@ fn random_tp1(generator: &mut Generator) -> Vec<u8> {
     octets
 }
 
-/// Something wrong with a frame that has at least 8 octets; then perhaps a check octet that fits.
+/// Changes an octet, if it is there.
+fn change(octets: &mut [u8], place: usize, changed: impl FnOnce(u8) -> u8) {
+    if let Some(octet) = octets.get_mut(place) {
+        *octet = changed(*octet);
+    }
+}
+
+/// How many things are wrong at once: only with two does the order of the tests show.
+fn some_damages(generator: &mut Generator) -> usize {
+    1 + usize::from(generator.one_in(3))
+}
+
+/// Something wrong with a frame; then perhaps a check octet that fits.
 pub fn damage_tp1(generator: &mut Generator, octets: &mut Vec<u8>) {
-    let place = generator.below(octets.len());
-    let damage = generator.damage();
-    match generator.below(10) {
-        0 => octets.truncate(place),
-        1 => octets.push(damage),
-        2 => octets[place] ^= damage,
-        3 => octets[0] = generator.one_of(&[0xcc, 0x0c, 0xc0, 0xf0, damage]),
-        4 => octets[1] |= damage & 0x0f,
-        5 => octets[6] = 255,
-        6 => octets[6] = octets[6].wrapping_add(1),
-        7 => octets[5] ^= 1,
-        8 => octets[place.min(7)] ^= damage,
-        _ => *octets = generator.octets(place),
+    for _ in 0..some_damages(generator) {
+        damage_tp1_once(generator, octets);
     }
     if generator.one_in(3) {
         if let Some((check, before)) = octets.split_last_mut() {
             *check = reference::check_octet(before);
         }
+    }
+}
+
+fn damage_tp1_once(generator: &mut Generator, octets: &mut Vec<u8>) {
+    let place = generator.below(octets.len().max(1));
+    let damage = generator.damage();
+    match generator.below(10) {
+        0 => octets.truncate(generator.one_of(&[place, 5, 6, 7, 8])),
+        1 => octets.push(damage),
+        2 => change(octets, place, |octet| octet ^ damage),
+        3 => {
+            let control = generator.one_of(&[0xcc, 0x0c, 0xc0, 0xf0, damage]);
+            change(octets, 0, |_| control);
+        }
+        4 => change(octets, 1, |octet| octet | damage & 0x0f),
+        5 => change(octets, 6, |_| 255),
+        6 => change(octets, 6, |octet| octet.wrapping_add(1)),
+        7 => change(octets, 5, |octet| octet ^ 1),
+        8 => change(octets, place.min(7), |octet| octet ^ damage),
+        _ => *octets = generator.octets(place),
     }
 }
 
@@ -142,38 +163,51 @@ pub fn damage_routing(generator: &mut Generator, octets: &mut Vec<u8>) {
 
 /// Something wrong with a message that begins at a place; then perhaps a total length that fits.
 fn damage_cemi(generator: &mut Generator, octets: &mut Vec<u8>, start: usize) {
-    let place = start + generator.below(octets.len() - start);
-    let ctrl1 = start + 2 + usize::from(octets[start + 1]);
-    let damage = generator.damage();
-    match generator.below(12) {
-        0 => octets.truncate(generator.one_of(&[place, start, start + 1, start + 2])),
-        1 => octets.push(damage),
-        2 => octets[place] ^= damage,
-        3 => octets[start] = generator.one_of(&[0x11, 0x2e, damage, damage]),
-        4 | 5 => octets[start + 1] = 255,
-        6 => octets[start + 1] ^= damage,
-        7 => octets[ctrl1 + 1] |= damage & 0x0f,
-        8 => octets[ctrl1 + 6] = 255,
-        9 => octets[ctrl1 + 6] ^= damage,
-        10 => octets[ctrl1] ^= 0x80,
-        _ => octets[ctrl1 + generator.below(7)] ^= damage,
+    for _ in 0..some_damages(generator) {
+        damage_cemi_once(generator, octets, start);
     }
     if start > 0 && generator.below(4) > 0 {
         mend_total(octets);
     }
 }
 
+fn damage_cemi_once(generator: &mut Generator, octets: &mut Vec<u8>, start: usize) {
+    let place = start + generator.below(octets.len().saturating_sub(start).max(1));
+    let ctrl1 = start + 2 + usize::from(octets.get(start + 1).copied().unwrap_or(0));
+    let damage = generator.damage();
+    match generator.below(13) {
+        // before, behind and in the midst of the octets that say how long the message is
+        0 => octets.truncate(generator.one_of(&[place, start, start + 1, start + 2])),
+        1 => octets.truncate(ctrl1 + generator.one_of(&[0, 6, 7, 7])),
+        2 => octets.push(damage),
+        3 => change(octets, place, |octet| octet ^ damage),
+        4 => {
+            let code = generator.one_of(&[0x11, 0x2e, damage, damage]);
+            change(octets, start, |_| code);
+        }
+        5 | 6 => change(octets, start + 1, |_| 255),
+        7 => change(octets, start + 1, |octet| octet ^ damage),
+        8 => change(octets, ctrl1 + 1, |octet| octet | damage & 0x0f),
+        9 => change(octets, ctrl1 + 6, |_| 255),
+        10 => change(octets, ctrl1 + 6, |octet| octet ^ damage),
+        11 => change(octets, ctrl1, |octet| octet ^ 0x80),
+        _ => change(octets, ctrl1 + generator.below(7), |octet| octet ^ damage),
+    }
+}
+
 /// Something wrong with a KNXnet/IP header, or with the length that it tells.
 fn damage_header(generator: &mut Generator, octets: &mut Vec<u8>) {
-    let place = generator.below(6);
-    let damage = generator.damage();
-    match generator.below(8) {
-        0 => octets.truncate(place),
-        1 => octets.push(damage),
-        2 | 3 => octets[place % 2] ^= damage,
-        4 | 5 => octets[2 + place % 2] ^= damage,
-        6 => octets[4 + place % 2] ^= damage,
-        _ => octets[place] ^= damage,
+    for _ in 0..some_damages(generator) {
+        let place = generator.below(6);
+        let damage = generator.damage();
+        match generator.below(8) {
+            0 => octets.truncate(place),
+            1 => octets.push(damage),
+            2 | 3 => change(octets, place % 2, |octet| octet ^ damage),
+            4 | 5 => change(octets, 2 + place % 2, |octet| octet ^ damage),
+            6 => change(octets, 4 + place % 2, |octet| octet ^ damage),
+            _ => change(octets, place, |octet| octet ^ damage),
+        }
     }
 }
 
