@@ -2,7 +2,7 @@
 
 use crate::answer::Answer;
 use crate::call::{Function, FUNCTIONS};
-use crate::numbers::{ranges, Width};
+use crate::numbers::ranges;
 use crate::reader::{kinds, Reader, ORDER};
 use crate::rounds::{table, Options};
 use std::collections::BTreeSet;
@@ -11,7 +11,6 @@ use std::collections::BTreeSet;
 const SHORT: Options = Options {
     count: 5000,
     seed: 0x4b6c_756d_6472_6179,
-    width: Width::Wide,
     is_small: false,
     wrong: None,
 };
@@ -219,15 +218,6 @@ fn every_cut_of_a_number_is_seen() {
     let numbers: usize = ORDER.iter().map(|&function| ranges(function).len()).sum();
     // 256 for a message code is 0 if cut, which is none either.
     assert_eq!(cuts.len(), 2 * numbers - 2);
-}
-
-#[test]
-fn no_number_of_a_narrow_table_is_wide() {
-    let narrow = Options {
-        width: Width::Narrow,
-        ..SHORT
-    };
-    assert!(outside_places(narrow)[1].is_empty());
 }
 
 #[test]

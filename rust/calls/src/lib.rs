@@ -17,6 +17,5 @@ mod table;
 mod traffic;
 mod writes;
 
-pub use numbers::Width;
 pub use rounds::{table, Options};
 pub use table::{Table, Wrong};

@@ -1,15 +1,14 @@
-//! calls COUNT SEED [--narrow] [--small] [--wrong WHAT] > FILE
+//! calls COUNT SEED [--small] [--wrong WHAT] > FILE
 
-use calls::{table, Options, Table, Width, Wrong};
+use calls::{table, Options, Table, Wrong};
 use std::io::Write;
 use std::process::ExitCode;
 
-const USAGE: &str = "usage: calls COUNT SEED [--narrow] [--small] [--wrong WHAT] > FILE
-  COUNT     how many calls, 100 at least
-  SEED      a number, hexadecimal behind 0x
-  --narrow  no number above 8 bits, nor an address above 16
-  --small   for a machine with 64 kB
-  --wrong   with one thing wrong, to try a player: answer, room, count or function";
+const USAGE: &str = "usage: calls COUNT SEED [--small] [--wrong WHAT] > FILE
+  COUNT    how many calls, 100 at least
+  SEED     a number, hexadecimal behind 0x
+  --small  for a machine with 64 kB
+  --wrong  with one thing wrong, to try a player: answer, room, count or function";
 
 fn number(text: &str) -> Option<u64> {
     match text.strip_prefix("0x") {
@@ -25,14 +24,12 @@ fn options(arguments: &[String]) -> Option<Options> {
     let mut options = Options {
         count: number(count).filter(|&count| count >= 100)? as usize,
         seed: number(seed)?,
-        width: Width::Wide,
         is_small: false,
         wrong: None,
     };
     let mut switches = switches.iter();
     while let Some(switch) = switches.next() {
         match switch.as_str() {
-            "--narrow" => options.width = Width::Narrow,
             "--small" => options.is_small = true,
             "--wrong" => options.wrong = Some(wrong(switches.next()?)?),
             _ => return None,

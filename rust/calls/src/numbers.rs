@@ -3,39 +3,27 @@
 use crate::call::Function;
 use crate::generator::Generator;
 
-/// How far numbers outside their ranges go.
-#[derive(Clone, Copy, Debug, PartialEq, Eq)]
-pub enum Width {
-    /// To the end of 8 bits, or of 16 for an address.
-    Narrow,
-    /// To the end of 32 bits.
-    Wide,
-}
-
-/// Numbers above a range: next to it, far off, next to the bits of the range, and such that those
-/// bits alone would be right.
-pub fn all_outside(width: Width, right: u32, most: u32) -> Vec<u32> {
-    let narrow_end = if most > 255 { 65_535 } else { 255 };
+/// Numbers above a range: next to it, far off, next to the bits of the range (8, or 16 for an
+/// address), and such that those bits alone would be right.
+pub fn all_outside(right: u32, most: u32) -> Vec<u32> {
+    let bits = if most > 255 { 65_535 } else { 255 };
     let mut numbers = vec![
         most + 1,
-        narrow_end,
-        narrow_end + 1,
+        bits,
+        bits + 1,
         256 | right,
         65_536 | right,
         0x00ff_0000 | right,
         0x8000_0000 | right,
         u32::MAX,
     ];
-    numbers.retain(|&number| number > most && (width == Width::Wide || number <= narrow_end));
+    numbers.retain(|&number| number > most);
     numbers
 }
 
-/// One of them, if there is one.
-pub fn outside(generator: &mut Generator, width: Width, right: u32, most: u32) -> u32 {
-    match all_outside(width, right, most).as_slice() {
-        [] => right,
-        numbers => generator.one_of(numbers),
-    }
+/// One of them.
+pub fn outside(generator: &mut Generator, right: u32, most: u32) -> u32 {
+    generator.one_of(&all_outside(right, most))
 }
 
 /// The largest number in its range of each function, in the order of its numbers.
@@ -74,20 +62,11 @@ mod tests {
     use super::*;
 
     #[test]
-    fn narrow_numbers_have_the_width_of_their_range() {
-        assert_eq!(all_outside(Width::Narrow, 3, 3), [4, 255]);
-        assert_eq!(all_outside(Width::Narrow, 3, 255), []);
-        assert_eq!(all_outside(Width::Narrow, 3, 65_535), []);
-    }
-
-    #[test]
-    fn wide_numbers_are_outside() {
-        let numbers = all_outside(Width::Wide, 3, 3);
+    fn all_numbers_are_outside() {
+        let numbers = all_outside(3, 3);
         assert_eq!(numbers[..5], [4, 255, 256, 259, 65_539]);
         for most in [0, 1, 3, 7, 255, 65_535] {
-            assert!(all_outside(Width::Wide, 0, most)
-                .iter()
-                .all(|&it| it > most));
+            assert!(all_outside(0, most).iter().all(|&it| it > most));
         }
     }
 }

@@ -3,7 +3,7 @@
 
 use crate::call::{Argument, Call, Function, Lent};
 use crate::generator::Generator;
-use crate::numbers::{outside, Width};
+use crate::numbers::outside;
 use reference::coupler::TABLE_SIZE;
 use reference::site::RECORD_SIZE;
 use reference::tracer::ROOM_SIZE;
@@ -198,7 +198,7 @@ impl<'a> Plan<'a> {
 
     /// The numbers of a query, from a coupler's line or near the destination: start, kind,
     /// destination, count. In one case of seven one of them may be outside its range.
-    pub fn query(&self, generator: &mut Generator, width: Width) -> [u32; 4] {
+    pub fn query(&self, generator: &mut Generator) -> [u32; 4] {
         let kind = generator.below(2) as u32;
         let destination = self.some_destination(generator, kind);
         let [high, _] = destination.to_be_bytes();
@@ -211,7 +211,7 @@ impl<'a> Plan<'a> {
         if generator.one_in(7) {
             let place = generator.below(4);
             let most = [255, 1, 65_535, 7][place];
-            query[place] = outside(generator, width, query[place], most);
+            query[place] = outside(generator, query[place], most);
         }
         query
     }
@@ -260,7 +260,7 @@ impl<'a> Plan<'a> {
     }
 
     /// About a line beside the starting line, or of the site, or the destination's, or any.
-    pub fn why(&self, generator: &mut Generator, query: &[u32; 4], width: Width) -> Call {
+    pub fn why(&self, generator: &mut Generator, query: &[u32; 4]) -> Call {
         let &[mut start, kind, destination, count] = query;
         let high = destination >> 8 & 0xff;
         let mut line = match generator.below(6) {
@@ -278,7 +278,7 @@ impl<'a> Plan<'a> {
             _ => self.some_line(generator).into(),
         };
         if generator.one_in(24) {
-            line = outside(generator, width, line, 255);
+            line = outside(generator, line, 255);
         }
         let mut arguments = self.arguments(&[start, kind, destination, count]);
         arguments.push(Argument::Number(line));

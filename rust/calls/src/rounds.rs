@@ -4,7 +4,7 @@ use crate::answer::Answer;
 use crate::call::{Argument, Call, Function, Lent, FUNCTIONS};
 use crate::frames;
 use crate::generator::Generator;
-use crate::numbers::{all_outside, ranges, Width};
+use crate::numbers::{all_outside, ranges};
 use crate::plans::{Extent, Plan, Stores, MOST_OWN, MOST_PROJECT};
 use crate::table::{Table, Wrong};
 use crate::traffic::Series;
@@ -14,7 +14,6 @@ use crate::writes;
 pub struct Options {
     pub count: usize,
     pub seed: u64,
-    pub width: Width,
     /// For a machine with 64 kB: at most 80 couplers in a site and one table in a store.
     pub is_small: bool,
     pub wrong: Option<Wrong>,
@@ -104,7 +103,7 @@ impl Writer {
             Function::RoutingWrite,
         ] {
             for _ in 0..share(function) {
-                let call = writes::some_write(&mut self.generator, function, self.options.width);
+                let call = writes::some_write(&mut self.generator, function);
                 self.table.add(&call);
             }
         }
@@ -117,11 +116,11 @@ impl Writer {
     fn numbers_outside(&mut self) {
         for function in WITH_NUMBERS {
             for (number, &most) in ranges(function).iter().enumerate() {
-                let ways = all_outside(self.options.width, 0, most).len();
+                let ways = all_outside(0, most).len();
                 for way in 0..ways {
                     let mut call = self.accepted(function);
                     let given = call.number_mut(number);
-                    *given = all_outside(self.options.width, *given, most)[way];
+                    *given = all_outside(*given, most)[way];
                     self.table.add(&call);
                 }
             }
@@ -130,20 +129,20 @@ impl Writer {
 
     /// A call that the reference does not refuse; of a writer, with a payload for both formats.
     fn accepted(&mut self, function: Function) -> Call {
-        let (generator, width) = (&mut self.generator, self.options.width);
+        let generator = &mut self.generator;
         let stores = Stores::new(generator, [1, 1]);
         loop {
             let call = match function {
-                Function::Step => Series::new(generator, width).step(generator),
+                Function::Step => Series::new(generator).step(generator),
                 Function::Trace | Function::Why => {
                     let plan = Plan::new(generator, &stores, extent(self.options));
-                    let query = plan.query(generator, width);
+                    let query = plan.query(generator);
                     match function {
                         Function::Trace => plan.trace(generator, &query),
-                        _ => plan.why(generator, &query, width),
+                        _ => plan.why(generator, &query),
                     }
                 }
-                _ => writes::some_write(generator, function, width),
+                _ => writes::some_write(generator, function),
             };
             let fits_both = match call.slices().as_slice() {
                 [payload] => payload.len() <= 16,
@@ -178,7 +177,7 @@ impl Writer {
     fn steps(&mut self, steps: usize) {
         let generator = &mut self.generator;
         for part in 0..COUPLERS_OF_A_ROUND {
-            let mut series = Series::new(generator, self.options.width);
+            let mut series = Series::new(generator);
             for _ in 0..portion(steps, part, COUPLERS_OF_A_ROUND) {
                 match generator.below(40) {
                     0 => series.spoil_size(generator),
@@ -194,17 +193,16 @@ impl Writer {
     fn sites(&mut self, traces: usize, whys: usize) {
         let tables = self.tables();
         let generator = &mut self.generator;
-        let width = self.options.width;
         let stores = Stores::new(generator, tables);
         for part in 0..SITES_OF_A_ROUND {
             let plan = Plan::new(generator, &stores, extent(self.options));
             for _ in 0..portion(traces, part, SITES_OF_A_ROUND) {
-                let query = plan.query(generator, width);
+                let query = plan.query(generator);
                 self.table.add(&plan.trace(generator, &query));
             }
             for _ in 0..portion(whys, part, SITES_OF_A_ROUND) {
-                let query = plan.query(generator, width);
-                self.table.add(&plan.why(generator, &query, width));
+                let query = plan.query(generator);
+                self.table.add(&plan.why(generator, &query));
             }
         }
     }

@@ -5,7 +5,7 @@ use crate::answer::{MEMORY_SIZE, SETTINGS_SIZE};
 use crate::call::{Argument, Call, Function, Lent};
 use crate::frames;
 use crate::generator::Generator;
-use crate::numbers::{outside, Width};
+use crate::numbers::outside;
 use reference::coupler::{ROOM_SIZE, TABLE_SIZE};
 use reference::Given;
 
@@ -16,7 +16,6 @@ type Address = (u8, u16);
 
 /// One coupler, and what is heard on its two sides.
 pub struct Series {
-    width: Width,
     line: u8,
     settings: [u8; SETTINGS_SIZE],
     /// The coupler's filter table, and what is lent for it.
@@ -31,11 +30,10 @@ pub struct Series {
 }
 
 impl Series {
-    pub fn new(generator: &mut Generator, width: Width) -> Series {
+    pub fn new(generator: &mut Generator) -> Series {
         let line = some_line(generator);
         let addresses = [0; 4].map(|_| some_address(generator, line));
         let mut series = Series {
-            width,
             line,
             settings: [0; SETTINGS_SIZE],
             table: some_table(generator, TABLE_SIZE, &addresses).into(),
@@ -121,7 +119,7 @@ impl Series {
             room: generator.one_of(&[ROOM_SIZE, 300]),
         };
         if generator.one_in(6) {
-            lent.spoil(generator, self.width);
+            lent.spoil(generator);
         }
         Call {
             function: Function::Step,
@@ -195,10 +193,10 @@ struct Spoiled {
 
 impl Spoiled {
     /// Numbers outside their ranges and lengths too small or too large, one or several.
-    fn spoil(&mut self, generator: &mut Generator, width: Width) {
+    fn spoil(&mut self, generator: &mut Generator) {
         for _ in 0..1 + generator.below(4) / 3 {
             match generator.below(8) {
-                0 | 1 => self.side = outside(generator, width, self.side, 1),
+                0 | 1 => self.side = outside(generator, self.side, 1),
                 2 => {
                     if let Some(medium) = self.settings.get_mut(MEDIUM) {
                         *medium = generator.one_of(&[2, 255]);

@@ -3,21 +3,21 @@
 
 use crate::call::{Argument, Call, Function, Lent};
 use crate::generator::Generator;
-use crate::numbers::{self, outside, Width, MOST};
+use crate::numbers::{self, outside, MOST};
 
 const LARGEST_ROOM: usize = 300;
 
-pub fn some_write(generator: &mut Generator, function: Function, width: Width) -> Call {
+pub fn some_write(generator: &mut Generator, function: Function) -> Call {
     let extended = generator.below(2) == 1;
     let mut numbers = Vec::new();
     if function != Function::Tp1Write {
-        numbers.extend(some_kind(generator, function, width));
+        numbers.extend(some_kind(generator, function));
     }
     let mut frame = numbers::frame(generator, extended);
     if generator.one_in(4) {
         for _ in 0..1 + generator.below(8) / 7 {
             let place = generator.below(frame.len());
-            frame[place] = outside(generator, width, frame[place], MOST[place]);
+            frame[place] = outside(generator, frame[place], MOST[place]);
         }
     }
     numbers.extend(frame);
@@ -42,7 +42,7 @@ fn head_size(function: Function, extended: bool) -> usize {
 }
 
 /// Message code and error mark.
-fn some_kind(generator: &mut Generator, function: Function, width: Width) -> [u32; 2] {
+fn some_kind(generator: &mut Generator, function: Function) -> [u32; 2] {
     let mut code = generator.one_of(&[0x29, 0x29, 0x11, 0x2e]);
     if function == Function::RoutingWrite && generator.below(8) > 0 {
         code = 0x29;
@@ -50,8 +50,8 @@ fn some_kind(generator: &mut Generator, function: Function, width: Width) -> [u3
     let mut mark = u32::from(code == 0x2e && generator.one_in(2));
     match generator.below(24) {
         0 => code = generator.octet().into(),
-        1 => code = outside(generator, width, code, 0x2e),
-        2 => mark = outside(generator, width, mark, 1),
+        1 => code = outside(generator, code, 0x2e),
+        2 => mark = outside(generator, mark, 1),
         3 => mark = 1,
         _ => {}
     }
