@@ -3,22 +3,35 @@
 use std::borrow::Cow;
 use std::rc::Rc;
 
-/// The exported functions in the order of tests/emulated/calls.h.
-#[derive(Clone, Copy, Debug, PartialEq, Eq)]
-pub enum Function {
-    CheckOctet,
-    Tp1Read,
-    Tp1Write,
-    CemiRead,
-    CemiWrite,
-    RoutingRead,
-    RoutingWrite,
-    Step,
-    Trace,
-    Why,
+/// The enum and all of its values in one list.
+macro_rules! functions {
+    ($($name:ident)*) => {
+        /// The exported functions in the order of tests/emulated/calls.h.
+        #[derive(Clone, Copy, Debug, PartialEq, Eq)]
+        pub enum Function {
+            $($name,)*
+        }
+
+        impl Function {
+            pub const ALL: &[Function] = &[$(Function::$name,)*];
+        }
+    };
 }
 
-pub const FUNCTIONS: usize = 10;
+functions! {
+    CheckOctet
+    Tp1Read
+    Tp1Write
+    CemiRead
+    CemiWrite
+    RoutingRead
+    RoutingWrite
+    Step
+    Trace
+    Why
+}
+
+pub const FUNCTIONS: usize = Function::ALL.len();
 
 /// A slice that is lent.
 #[derive(Clone, Debug)]

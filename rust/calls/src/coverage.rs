@@ -3,7 +3,7 @@
 use crate::answer::Answer;
 use crate::call::{Function, FUNCTIONS};
 use crate::numbers::ranges;
-use crate::reader::{kinds, Reader, ORDER};
+use crate::reader::{kinds, Reader};
 use crate::rounds::{table, Options};
 use std::collections::BTreeSet;
 
@@ -28,7 +28,7 @@ fn octets(options: Options) -> Vec<u8> {
 fn functions_and_arguments_are_those_of_the_calls() {
     let calls = include_str!("../../../tests/emulated/calls.h");
     let mut listed = calls.split("\nCALL(").skip(1);
-    for function in ORDER {
+    for &function in Function::ALL {
         let call = listed.next().expect("a call");
         let name: String = format!("{function:?}").to_lowercase();
         let told = call
@@ -182,10 +182,13 @@ fn outside_places(options: Options) -> [BTreeSet<(usize, usize)>; 2] {
 
 #[test]
 fn every_number_is_once_outside_its_range() {
-    let numbers: usize = ORDER.iter().map(|&function| ranges(function).len()).sum();
+    let numbers: usize = Function::ALL
+        .iter()
+        .map(|&function| ranges(function).len())
+        .sum();
     // Those that leave no number of 8 bits, or 16, outside: addresses and lines.
     let full = |&&most: &&u32| most == 255 || most == 65_535;
-    let full: usize = ORDER
+    let full: usize = Function::ALL
         .iter()
         .map(|&it| ranges(it).iter().filter(full).count())
         .sum();
@@ -215,7 +218,10 @@ fn every_cut_of_a_number_is_seen() {
             }
         }
     }
-    let numbers: usize = ORDER.iter().map(|&function| ranges(function).len()).sum();
+    let numbers: usize = Function::ALL
+        .iter()
+        .map(|&function| ranges(function).len())
+        .sum();
     // 256 for a message code is 0 if cut, which is none either.
     assert_eq!(cuts.len(), 2 * numbers - 2);
 }

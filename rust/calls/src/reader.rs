@@ -6,19 +6,6 @@ use crate::table::{HEAD_SIZE, MARK, PLACES};
 use Function::{CemiRead, CemiWrite, CheckOctet, RoutingRead, RoutingWrite};
 use Function::{Step, Tp1Read, Tp1Write, Trace, Why};
 
-pub const ORDER: [Function; 10] = [
-    CheckOctet,
-    Tp1Read,
-    Tp1Write,
-    CemiRead,
-    CemiWrite,
-    RoutingRead,
-    RoutingWrite,
-    Step,
-    Trace,
-    Why,
-];
-
 /// The arguments in the order of tests/emulated/calls.h: n a number, o octets to read, r a room.
 pub fn kinds(function: Function) -> &'static str {
     match function {
@@ -111,7 +98,7 @@ impl Iterator for Reader<'_> {
         if self.octets.is_empty() {
             return None;
         }
-        let function = ORDER[usize::from(self.octet())];
+        let function = Function::ALL[usize::from(self.octet())];
         let mut arguments = Vec::new();
         for (place, kind) in kinds(function).chars().enumerate() {
             arguments.push(match kind {
