@@ -5,12 +5,13 @@ use crate::call::{Function, FUNCTIONS};
 use crate::numbers::ranges;
 use crate::reader::{kinds, Reader};
 use crate::rounds::{table, Options};
+use inputs::USUAL_SEED;
 use std::collections::BTreeSet;
 
 /// As tools/check-boards asks for it.
 const SHORT: Options = Options {
     count: 5000,
-    seed: 0x4b6c_756d_6472_6179,
+    seed: USUAL_SEED,
     is_small: false,
     wrong: None,
 };

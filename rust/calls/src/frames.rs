@@ -1,7 +1,8 @@
 //! Octets for the readers: frames, messages and datagrams of every length, whole and damaged.
 
-use crate::generator::Generator;
 use crate::numbers;
+use inputs::frames::{change, damage_tp1, mend_total, some_damages, tp1};
+use inputs::Generator;
 use reference::Given;
 
 const CODES: [u8; 3] = [0x11, 0x2e, 0x29];
@@ -31,13 +32,6 @@ pub fn some_payload(generator: &mut Generator, given: &Given) -> Vec<u8> {
         _ => 1 + generator.below(most),
     };
     generator.octets(length)
-}
-
-pub fn tp1(given: &Given, payload: &[u8]) -> Vec<u8> {
-    let mut octets = vec![0; payload.len() + 7 + usize::from(given.extended)];
-    let written = reference::tp1::write(given, payload, &mut octets);
-    assert_eq!(written, Ok(octets.len()));
-    octets
 }
 
 /// A message with additional information, and with the bits of Ctrl1 that are not read in any
@@ -109,50 +103,6 @@ fn random_tp1(generator: &mut Generator) -> Vec<u8> {
     octets
 }
 
-/// Changes an octet, if it is there.
-fn change(octets: &mut [u8], place: usize, changed: impl FnOnce(u8) -> u8) {
-    if let Some(octet) = octets.get_mut(place) {
-        *octet = changed(*octet);
-    }
-}
-
-/// How many things are wrong at once: only with two does the order of the tests show.
-fn some_damages(generator: &mut Generator) -> usize {
-    1 + usize::from(generator.one_in(3))
-}
-
-/// Something wrong with a frame; then perhaps a check octet that fits.
-pub fn damage_tp1(generator: &mut Generator, octets: &mut Vec<u8>) {
-    for _ in 0..some_damages(generator) {
-        damage_tp1_once(generator, octets);
-    }
-    if generator.one_in(3) {
-        if let Some((check, before)) = octets.split_last_mut() {
-            *check = reference::check_octet(before);
-        }
-    }
-}
-
-fn damage_tp1_once(generator: &mut Generator, octets: &mut Vec<u8>) {
-    let place = generator.below(octets.len().max(1));
-    let damage = generator.damage();
-    match generator.below(10) {
-        0 => octets.truncate(generator.one_of(&[place, 5, 6, 7, 8])),
-        1 => octets.push(damage),
-        2 => change(octets, place, |octet| octet ^ damage),
-        3 => {
-            let control = generator.one_of(&[0xcc, 0x0c, 0xc0, 0xf0, damage]);
-            change(octets, 0, |_| control);
-        }
-        4 => change(octets, 1, |octet| octet | damage & 0x0f),
-        5 => change(octets, 6, |_| 255),
-        6 => change(octets, 6, |octet| octet.wrapping_add(1)),
-        7 => change(octets, 5, |octet| octet ^ 1),
-        8 => change(octets, place.min(7), |octet| octet ^ damage),
-        _ => *octets = generator.octets(place),
-    }
-}
-
 /// Something wrong with a datagram's header or with its message.
 pub fn damage_routing(generator: &mut Generator, octets: &mut Vec<u8>) {
     match generator.below(5) {
@@ -208,12 +158,5 @@ fn damage_header(generator: &mut Generator, octets: &mut Vec<u8>) {
             6 => change(octets, 4 + place % 2, |octet| octet ^ damage),
             _ => change(octets, place, |octet| octet ^ damage),
         }
-    }
-}
-
-fn mend_total(octets: &mut [u8]) {
-    let total = octets.len() as u16;
-    if let Some(place) = octets.get_mut(4..6) {
-        place.copy_from_slice(&total.to_be_bytes());
     }
 }

@@ -7,7 +7,6 @@ mod call;
 #[cfg(test)]
 mod coverage;
 mod frames;
-mod generator;
 mod numbers;
 mod plans;
 #[cfg(test)]

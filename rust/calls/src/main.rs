@@ -1,6 +1,7 @@
 //! calls COUNT SEED [--small] [--wrong WHAT] > FILE
 
 use calls::{table, Options, Table, Wrong};
+use inputs::number;
 use std::io::Write;
 use std::process::ExitCode;
 
@@ -10,20 +11,13 @@ const USAGE: &str = "usage: calls COUNT SEED [--small] [--wrong WHAT] > FILE
   --small  for a machine with 64 kB
   --wrong  with one thing wrong, to try a player: answer, room, count or function";
 
-fn number(text: &str) -> Option<u64> {
-    match text.strip_prefix("0x") {
-        Some(digits) => u64::from_str_radix(digits, 16).ok(),
-        None => text.parse().ok(),
-    }
-}
-
 fn options(arguments: &[String]) -> Option<Options> {
     let [count, seed, switches @ ..] = arguments else {
         return None;
     };
     let mut options = Options {
-        count: number(count).filter(|&count| count >= 100)? as usize,
-        seed: number(seed)?,
+        count: number(count).ok().filter(|&count| count >= 100)? as usize,
+        seed: number(seed).ok()?,
         is_small: false,
         wrong: None,
     };

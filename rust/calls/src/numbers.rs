@@ -1,7 +1,7 @@
 //! The numbers that a caller gives, in their ranges and outside.
 
 use crate::call::Function;
-use crate::generator::Generator;
+use inputs::Generator;
 
 /// Numbers above a range: next to it, far off, next to the bits of the range (8, or 16 for an
 /// address), and such that those bits alone would be right.

@@ -1,243 +1,62 @@
-//! Sites: stores that serve for several of them, couplers that hang together more or less, open more
-//! or less, and now and then something wrong in any of them.
+//! Calls of the tracer: queries about sites, with numbers in their ranges and outside.
 
 use crate::call::{Argument, Call, Function, Lent};
-use crate::generator::Generator;
 use crate::numbers::outside;
+use inputs::plans::{self, Stores};
+use inputs::Generator;
 use reference::coupler::TABLE_SIZE;
-use reference::site::RECORD_SIZE;
 use reference::tracer::ROOM_SIZE;
 use std::rc::Rc;
 
-pub const MOST_PROJECT: usize = 128;
-pub const MOST_OWN: usize = 127;
-const NO_TABLE: u8 = 0xff;
-
-/// Places of codes in a record.
-const GROUP_CODES: [usize; 4] = [5, 6, 9, 10];
-const BROADCAST_CODES: [usize; 2] = [4, 8];
-
-/// How often codes 0, 1 and 2 come in a site.
-const CODES: [[usize; 3]; 6] = [
-    [1, 1, 1],
-    [1, 3, 3],
-    [0, 1, 1],
-    [1, 10, 10],
-    [0, 5, 1],
-    [0, 0, 1],
-];
-
-/// How much a site and its stores have at most.
-#[derive(Clone, Copy, Debug)]
-pub struct Extent {
-    pub couplers: usize,
-    pub tables: usize,
-}
-
-/// Two stores, and the groups that some of their tables list.
-pub struct Stores {
-    project: Rc<[u8]>,
-    own: Rc<[u8]>,
-    groups: [u16; 4],
-}
-
-impl Stores {
-    pub fn new(generator: &mut Generator, [project, own]: [usize; 2]) -> Stores {
-        let groups = [0; 4].map(|_| some_group(generator));
-        // Listed in few of the tables, in half or in most of them.
-        let eighths = generator.one_of(&[1, 4, 7, 7]);
-        let mut store = |tables| {
-            let tables = (0..tables).map(|_| some_table(generator, &groups, eighths));
-            tables.collect::<Vec<_>>().concat().into()
-        };
-        Stores {
-            project: store(project),
-            own: store(own),
-            groups,
-        }
-    }
-
-    fn tables(&self) -> [usize; 2] {
-        [
-            (self.project.len() / TABLE_SIZE).min(MOST_PROJECT),
-            (self.own.len() / TABLE_SIZE).min(MOST_OWN),
-        ]
-    }
-
-    /// The number of a table that lies in its store, if there is any.
-    fn some_number(&self, generator: &mut Generator) -> Option<u8> {
-        let [project, own] = self.tables();
-        if project + own == 0 {
-            return None;
-        }
-        let place = generator.below(project + own);
-        let number = match place.checked_sub(project) {
-            None => place,
-            Some(place) => MOST_PROJECT + place,
-        };
-        Some(number as u8)
-    }
-}
-
-/// Few bits or many or by chance.
-fn some_table(generator: &mut Generator, groups: &[u16], eighths: usize) -> Vec<u8> {
-    let mut table = match generator.below(3) {
-        0 => vec![0; TABLE_SIZE],
-        1 => vec![0xff; TABLE_SIZE],
-        _ => generator.octets(TABLE_SIZE),
-    };
-    for &group in groups {
-        let (octet, bit) = (&mut table[usize::from(group / 8)], 1 << (group % 8));
-        if generator.below(8) < eighths {
-            *octet |= bit;
-        } else {
-            *octet &= !bit;
-        }
-    }
-    table
-}
-
-fn some_group(generator: &mut Generator) -> u16 {
-    let any = generator.field();
-    generator.one_of(&[1, 0x6fff, 0x7000, 0xffff, any & 0xfff, any])
-}
-
 /// A site over two stores, as it is lent.
 pub struct Plan<'a> {
-    stores: &'a Stores,
-    records: Vec<u8>,
+    plan: plans::Plan<'a>,
+    records: Lent,
     project: Lent,
     own: Lent,
 }
 
 impl<'a> Plan<'a> {
-    /// In one case of three something may be wrong with it.
-    pub fn new(generator: &mut Generator, stores: &'a Stores, extent: Extent) -> Plan<'a> {
-        let weights = generator.one_of(&CODES);
-        let mut records = Vec::new();
-        for line in some_lines(generator, extent.couplers) {
-            records.extend(some_record(generator, stores, line, &weights));
-        }
-        let lent = |store: &Rc<[u8]>| match store.len() {
-            0 => Lent::Null,
-            _ => Lent::Octets(store.clone()),
+    /// Of so many couplers at most.
+    pub fn new(generator: &mut Generator, stores: &'a Stores, most: usize) -> Plan<'a> {
+        let plan = plans::Plan::new(generator, stores, most);
+        let site = plan.site();
+        let records = match site.records {
+            [] => Lent::Null,
+            records => records.to_vec().into(),
         };
-        let mut plan = Plan {
-            stores,
+        let project = lent_store(generator, &stores.project, site.project);
+        let own = lent_store(generator, &stores.own, site.own);
+        Plan {
+            plan,
             records,
-            project: lent(&stores.project),
-            own: lent(&stores.own),
-        };
-        if generator.one_in(3) {
-            for _ in 0..=generator.below(3) {
-                plan.spoil(generator, extent);
-            }
-        }
-        plan
-    }
-
-    fn spoil(&mut self, generator: &mut Generator, extent: Extent) {
-        let couplers = self.records.len() / RECORD_SIZE;
-        match generator.below(16) {
-            0 | 1 => self.spoil_length(generator),
-            2 => self.spoil_store(generator),
-            3 if extent.couplers == 255 => self.add_records(generator),
-            _ if couplers == 0 => self.spoil_length(generator),
-            _ => {
-                let [place, other] = [0; 2].map(|_| generator.below(couplers) * RECORD_SIZE);
-                let line = self.records[other + 2];
-                let record = &mut self.records[place..][..RECORD_SIZE];
-                spoil_record(generator, record, line, self.stores);
-            }
+            project,
+            own,
         }
     }
 
-    fn spoil_length(&mut self, generator: &mut Generator) {
-        let octets = 1 + generator.below(RECORD_SIZE - 1);
-        if generator.one_in(2) {
-            self.records.extend(generator.octets(octets));
-        } else {
-            let left = self.records.len().saturating_sub(octets);
-            self.records.truncate(left);
-        }
-    }
-
-    /// One store lent short, where it is not so large that a copy of it would fill the table.
-    fn spoil_store(&mut self, generator: &mut Generator) {
-        let is_project = generator.one_in(2);
-        let (store, lent) = match is_project {
-            true => (&self.stores.project, &mut self.project),
-            false => (&self.stores.own, &mut self.own),
-        };
-        let left = store
-            .len()
-            .saturating_sub(generator.one_of(&[1, 8191, 4096]));
-        if left < 4 * TABLE_SIZE {
-            *lent = store[..left].to_vec().into();
-        }
-    }
-
-    /// Up to more than 255 of them.
-    fn add_records(&mut self, generator: &mut Generator) {
-        for _ in 0..generator.one_of(&[1, 2, 256]) {
-            let line = generator.damage();
-            let record = some_record(generator, self.stores, line, &[0, 0, 1]);
-            self.records.extend(record);
-        }
-    }
-
-    /// The line of a coupler in the site, or any.
-    fn some_line(&self, generator: &mut Generator) -> u8 {
-        let place = generator.below((self.records.len() / RECORD_SIZE).max(1));
-        let line = self.records.get(place * RECORD_SIZE + 2);
-        match (line, generator.below(3)) {
-            (Some(&line), 1..) => line,
-            _ => generator.octet(),
-        }
-    }
-
-    /// The numbers of a query, from a coupler's line or near the destination: start, kind,
-    /// destination, count. In one case of seven one of them may be outside its range.
+    /// The numbers of a query: start, kind, destination, count. In one case of seven one of them may
+    /// be outside its range.
     pub fn query(&self, generator: &mut Generator) -> [u32; 4] {
-        let kind = generator.below(2) as u32;
-        let destination = self.some_destination(generator, kind);
-        let [high, _] = destination.to_be_bytes();
-        let start = match (kind, generator.below(2)) {
-            (0, 0) => generator.one_of(&[high, high & 0xf0, high ^ 1]),
-            _ => self.some_line(generator),
-        };
-        let count = generator.one_of(&[0, 1, 2, 3, 4, 5, 6, 7, 5, 6, 7, 7]);
-        let mut query = [start.into(), kind, destination.into(), count];
+        let query = self.plan.query(generator);
+        let mut numbers = [
+            query.start.into(),
+            query.kind.into(),
+            query.destination.into(),
+            query.count.into(),
+        ];
         if generator.one_in(7) {
             let place = generator.below(4);
             let most = [255, 1, 65_535, 7][place];
-            query[place] = outside(generator, query[place], most);
+            numbers[place] = outside(generator, numbers[place], most);
         }
-        query
-    }
-
-    /// Around the couplers' own addresses, on and off their lines and areas; groups that the tables
-    /// list, broadcast, any.
-    fn some_destination(&self, generator: &mut Generator, kind: u32) -> u16 {
-        let any = generator.field();
-        let own = u16::from(self.some_line(generator)) << 8;
-        let (on_line, in_area) = (own | any & 0xff, own & 0xf000 | any & 0xfff);
-        let individual = [own, own, on_line, on_line, in_area, any];
-        let group = generator.one_of(&self.stores.groups);
-        match kind {
-            0 => generator.one_of(&individual),
-            _ => generator.one_of(&[group, group, group, 0, 0, any, own]),
-        }
+        numbers
     }
 
     fn arguments(&self, query: &[u32; 4]) -> Vec<Argument> {
         let mut arguments: Vec<Argument> = query.iter().copied().map(Argument::Number).collect();
-        let records = match self.records.len() {
-            0 => Lent::Null,
-            _ => self.records.clone().into(),
-        };
-        for lent in [records, self.project.clone(), self.own.clone()] {
-            arguments.push(Argument::Octets(lent));
+        for lent in [&self.records, &self.project, &self.own] {
+            arguments.push(Argument::Octets(lent.clone()));
         }
         arguments
     }
@@ -267,7 +86,7 @@ impl<'a> Plan<'a> {
             0..3 if start < 256 => {
                 let by = match kind == 0 && generator.one_in(2) {
                     true => high,
-                    false => self.some_line(generator).into(),
+                    false => self.plan.some_line(generator).into(),
                 };
                 let sides = some_sides(generator, by);
                 start = sides[0];
@@ -275,7 +94,7 @@ impl<'a> Plan<'a> {
             }
             3 => generator.one_of(&[high, high & 0xf0]),
             4 => generator.one_of(&[0x00, start & 0xf0, start & 0xff]),
-            _ => self.some_line(generator).into(),
+            _ => self.plan.some_line(generator).into(),
         };
         if generator.one_in(24) {
             line = outside(generator, line, 255);
@@ -298,76 +117,12 @@ fn some_sides(generator: &mut Generator, sub: u32) -> [u32; 2] {
     }
 }
 
-/// Different lines in any order: any, or with all area couplers as far as they go, or of two areas
-/// and area 0 first.
-fn some_lines(generator: &mut Generator, most: usize) -> Vec<u8> {
-    let number = match generator.below(4) {
-        0 => generator.below(9),
-        1 => generator.below(41),
-        2 => generator.below(most + 1),
-        _ => most - generator.below(16),
-    };
-    let mut lines: Vec<u8> = (1..=255).collect();
-    generator.shuffle(&mut lines);
-    let areas = [0, generator.octet() >> 4, generator.octet() >> 4];
-    match generator.below(3) {
-        0 => {}
-        1 => lines.sort_by_key(|line| line & 0x0f != 0),
-        _ => lines.sort_by_key(|line| !areas.contains(&(line >> 4))),
-    }
-    lines.truncate(number);
-    generator.shuffle(&mut lines);
-    lines
-}
-
-fn some_record(
-    generator: &mut Generator,
-    stores: &Stores,
-    line: u8,
-    weights: &[usize; 3],
-) -> [u8; RECORD_SIZE] {
-    let mut record = [0x43, 0x50, line, 0, 0, 0, 0, 0, 0, 0, 0, NO_TABLE];
-    for code in &mut record[3..11] {
-        *code = some_code(generator, weights);
-    }
-    let number = stores.some_number(generator);
-    let without_1 = |code: u8| [0, 2, 2][usize::from(code)];
-    for place in BROADCAST_CODES {
-        record[place] = without_1(record[place]);
-    }
-    if number.is_none() {
-        for place in GROUP_CODES {
-            record[place] = without_1(record[place]);
-        }
-    }
-    let asks = GROUP_CODES.iter().any(|&place| record[place] == 1);
-    if let Some(number) = number.filter(|_| asks || generator.one_in(2)) {
-        record[11] = number;
-    }
-    record
-}
-
-fn some_code(generator: &mut Generator, weights: &[usize; 3]) -> u8 {
-    let place = generator.below(weights.iter().sum());
-    u8::from(place >= weights[0]) + u8::from(place >= weights[0] + weights[1])
-}
-
-/// Mark, line, codes, table number, or a line that the site has already.
-fn spoil_record(generator: &mut Generator, record: &mut [u8], line: u8, stores: &Stores) {
-    match generator.below(8) {
-        0 => record[generator.below(2)] ^= generator.damage(),
-        1 => record[2] = 0,
-        2 => record[generator.one_of(&BROADCAST_CODES)] = 1,
-        3 => record[3 + generator.below(8)] = generator.one_of(&[3, 4, 255]),
-        4 => {
-            let [project, own] = stores.tables();
-            let missing = [project as u8, (MOST_PROJECT + own) as u8, 127, 254];
-            record[11] = generator.one_of(&missing);
-        }
-        5 => {
-            record[generator.one_of(&GROUP_CODES)] = 1;
-            record[11] = NO_TABLE;
-        }
-        _ => record[2] = line,
+/// A store as much of it as is lent; all of it, where the part is so large that a copy would fill the
+/// table.
+fn lent_store(generator: &mut Generator, store: &Rc<[u8]>, part: &[u8]) -> Lent {
+    match part.len() {
+        0 if generator.below(8) > 0 => Lent::Null,
+        length if length < store.len() && length < 4 * TABLE_SIZE => part.to_vec().into(),
+        _ => Lent::Octets(store.clone()),
     }
 }

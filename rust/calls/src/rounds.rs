@@ -3,12 +3,13 @@
 use crate::answer::Answer;
 use crate::call::{Argument, Call, Function, Lent, FUNCTIONS};
 use crate::frames;
-use crate::generator::Generator;
 use crate::numbers::{all_outside, ranges};
-use crate::plans::{Extent, Plan, Stores, MOST_OWN, MOST_PROJECT};
+use crate::plans::Plan;
 use crate::table::{Table, Wrong};
 use crate::traffic::Series;
 use crate::writes;
+use inputs::plans::{Stores, MOST_COUPLERS, MOST_OWN, MOST_PROJECT};
+use inputs::Generator;
 
 #[derive(Clone, Copy, Debug)]
 pub struct Options {
@@ -130,12 +131,13 @@ impl Writer {
     /// A call that the reference does not refuse; of a writer, with a payload for both formats.
     fn accepted(&mut self, function: Function) -> Call {
         let generator = &mut self.generator;
+        let most_couplers = extent(self.options).couplers;
         let stores = Stores::new(generator, [1, 1]);
         loop {
             let call = match function {
                 Function::Step => Series::new(generator).step(generator),
                 Function::Trace | Function::Why => {
-                    let plan = Plan::new(generator, &stores, extent(self.options));
+                    let plan = Plan::new(generator, &stores, most_couplers);
                     let query = plan.query(generator);
                     match function {
                         Function::Trace => plan.trace(generator, &query),
@@ -193,9 +195,10 @@ impl Writer {
     fn sites(&mut self, traces: usize, whys: usize) {
         let tables = self.tables();
         let generator = &mut self.generator;
+        let most_couplers = extent(self.options).couplers;
         let stores = Stores::new(generator, tables);
         for part in 0..SITES_OF_A_ROUND {
-            let plan = Plan::new(generator, &stores, extent(self.options));
+            let plan = Plan::new(generator, &stores, most_couplers);
             for _ in 0..portion(traces, part, SITES_OF_A_ROUND) {
                 let query = plan.query(generator);
                 self.table.add(&plan.trace(generator, &query));
@@ -221,6 +224,12 @@ impl Writer {
     }
 }
 
+/// How much a site and its stores have at most.
+struct Extent {
+    couplers: usize,
+    tables: usize,
+}
+
 fn extent(options: Options) -> Extent {
     match options.is_small {
         true => Extent {
@@ -228,7 +237,7 @@ fn extent(options: Options) -> Extent {
             tables: 1,
         },
         false => Extent {
-            couplers: 255,
+            couplers: MOST_COUPLERS,
             tables: 3,
         },
     }

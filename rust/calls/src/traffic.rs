@@ -4,15 +4,14 @@
 use crate::answer::{MEMORY_SIZE, SETTINGS_SIZE};
 use crate::call::{Argument, Call, Function, Lent};
 use crate::frames;
-use crate::generator::Generator;
 use crate::numbers::outside;
+use inputs::frames::{damage_tp1, tp1};
+use inputs::traffic::{send_again, some_address, some_line, Address};
+use inputs::{tables, Generator};
 use reference::coupler::{ROOM_SIZE, TABLE_SIZE};
 use reference::Given;
 
 const MEDIUM: usize = 9;
-
-/// Group or not, and destination.
-type Address = (u8, u16);
 
 /// One coupler, and what is heard on its two sides.
 pub struct Series {
@@ -36,7 +35,7 @@ impl Series {
         let mut series = Series {
             line,
             settings: [0; SETTINGS_SIZE],
-            table: some_table(generator, TABLE_SIZE, &addresses).into(),
+            table: tables::with_addresses(generator, TABLE_SIZE, &addresses).into(),
             lent_table: Lent::Null,
             sources: [generator.field(), generator.field()],
             addresses,
@@ -83,7 +82,7 @@ impl Series {
             _ => {
                 let length = generator.one_of(&[0, 1, TABLE_SIZE - 1]);
                 self.settings[3] = 1;
-                self.lent_table = some_table(generator, length, &self.addresses).into();
+                self.lent_table = tables::with_addresses(generator, length, &self.addresses).into();
             }
         }
     }
@@ -148,10 +147,10 @@ impl Series {
             }
             return octets.into();
         }
-        let mut octets = frames::tp1(given, payload);
+        let mut octets = tp1(given, payload);
         match (damaged, generator.below(16)) {
             (true, 0) => return Lent::Null,
-            (true, _) => frames::damage_tp1(generator, &mut octets),
+            (true, _) => damage_tp1(generator, &mut octets),
             _ => {}
         }
         octets.into()
@@ -162,24 +161,16 @@ impl Series {
         let source = generator.one_of(&self.sources);
         let (group, destination) = generator.one_of(&self.addresses);
         let (given, payload) = &mut self.previous;
-        match generator.below(12) {
-            0 | 1 => given.first_sending = 0,
-            2 => given.first_sending = 1,
-            3 => given.count = generator.below(8) as u8,
-            4 => {
-                given.first_sending = 0;
-                payload[0] ^= generator.damage();
-            }
-            _ => {
-                *given = Given {
-                    source,
-                    group,
-                    destination,
-                    ..frames::some_given(generator)
-                };
-                *payload = frames::some_payload(generator, given);
-            }
+        if send_again(generator, given, payload) {
+            return;
         }
+        *given = Given {
+            source,
+            group,
+            destination,
+            ..frames::some_given(generator)
+        };
+        *payload = frames::some_payload(generator, given);
     }
 }
 
@@ -214,41 +205,4 @@ impl Spoiled {
             }
         }
     }
-}
-
-/// Lines of area 0, area couplers, the last line, any.
-fn some_line(generator: &mut Generator) -> u8 {
-    match generator.below(8) {
-        0 | 1 => 1 + generator.below(15) as u8,
-        2 | 3 => (1 + generator.below(15) as u8) << 4,
-        4 => 0xff,
-        _ => generator.damage(),
-    }
-}
-
-/// Around the coupler's own address, on and off its line and area; groups around their borders.
-fn some_address(generator: &mut Generator, line: u8) -> Address {
-    let (own, any) = (u16::from(line) << 8, generator.field());
-    let (on_line, in_area) = (own | any & 0xff, own & 0xf000 | any & 0xfff);
-    let individual = [own, own, on_line, in_area, any, 0, own & 0xf000];
-    let group = [0, 0, 1, any & 0xfff, 0x6fff, 0x7000, 0xffff, any, own];
-    match generator.below(2) {
-        0 => (0, generator.one_of(&individual)),
-        _ => (1, generator.one_of(&group)),
-    }
-}
-
-/// Few bits or many or by chance, where half of the addresses in use are listed.
-fn some_table(generator: &mut Generator, length: usize, addresses: &[Address]) -> Vec<u8> {
-    let mut table = match generator.below(3) {
-        0 => vec![0; length],
-        1 => vec![0xff; length],
-        _ => generator.octets(length),
-    };
-    for &(_, address) in addresses {
-        if let Some(octet) = table.get_mut(usize::from(address / 8)) {
-            *octet ^= (generator.below(2) as u8) << (address % 8);
-        }
-    }
-    table
 }

@@ -2,8 +2,8 @@
 //! the size that is needed.
 
 use crate::call::{Argument, Call, Function, Lent};
-use crate::generator::Generator;
 use crate::numbers::{self, outside, MOST};
+use inputs::Generator;
 
 const LARGEST_ROOM: usize = 300;
 

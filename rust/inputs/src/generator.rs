@@ -1,5 +1,3 @@
-//! Inputs from a seed: the same seed gives the same inputs on every machine.
-
 /// SplitMix64.
 pub struct Generator(u64);
 
