@@ -92,7 +92,8 @@ impl<'a> Plan<'a> {
     pub fn new(generator: &mut Generator, stores: &'a Stores, most: usize) -> Plan<'a> {
         let weights = generator.one_of(&CODES);
         let mut records = Vec::new();
-        for line in some_lines(generator, most) {
+        let couplers = some_count(generator, most);
+        for line in some_lines(generator, couplers, &[0]) {
             records.extend(some_record(generator, stores, line, &weights));
         }
         let mut plan = Plan {
@@ -203,18 +204,23 @@ impl<'a> Plan<'a> {
     }
 }
 
-/// Different lines in any order: any, or with all area couplers as far as they go, or of two areas
-/// and area 0 first.
-fn some_lines(generator: &mut Generator, most: usize) -> Vec<u8> {
-    let number = match generator.below(4) {
+/// Few, or up to so many, or nearly so many.
+fn some_count(generator: &mut Generator, most: usize) -> usize {
+    match generator.below(4) {
         0 => generator.below(9),
         1 => generator.below(41),
         2 => generator.below(most + 1),
         _ => most - generator.below(16),
-    };
+    }
+}
+
+/// Different lines in any order: any, or with all area couplers as far as they go, or those of two
+/// areas, and of the areas named, first.
+pub fn some_lines(generator: &mut Generator, number: usize, named: &[u8]) -> Vec<u8> {
     let mut lines: Vec<u8> = (1..=255).collect();
     generator.shuffle(&mut lines);
-    let areas = [0, generator.octet() >> 4, generator.octet() >> 4];
+    let two = [generator.octet() >> 4, generator.octet() >> 4];
+    let areas = [&two, named].concat();
     match generator.below(3) {
         0 => {}
         1 => lines.sort_by_key(|line| line & 0x0f != 0),

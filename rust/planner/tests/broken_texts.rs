@@ -2,15 +2,14 @@
 
 mod support;
 
+use inputs::{seed, Generator};
 use planner::fault::Fault;
 use planner::loading::{load_text, Failure};
 use planner::text::read;
 use std::collections::HashSet;
 use support::broken::{all, GOOD};
-use support::generator::{seed, Generator};
 use support::layouts::some_layout;
 use support::sites::some_site;
-use support::{below, one_of};
 
 const DAMAGED: u64 = 20_000;
 
@@ -208,10 +207,8 @@ fn some_text(generator: &mut Generator) -> Vec<u8> {
 
 /// Deletes, doubles, inserts or changes octets; some of what is inserted means something.
 fn damage(generator: &mut Generator, octets: &mut Vec<u8>) {
-    let start = below(generator, octets.len() + 1);
-    let end = octets
-        .len()
-        .min(start + one_of(generator, &[0, 1, 1, 2, 8]));
+    let start = generator.below(octets.len() + 1);
+    let end = octets.len().min(start + generator.one_of(&[0, 1, 1, 2, 8]));
     let words = [
         "coupler", "table", "\n", "\r", " ", "\"", "#", ",", "-", "4.7", "2/2/52", "all",
         "\u{2028}",
@@ -225,7 +222,7 @@ fn damage(generator: &mut Generator, octets: &mut Vec<u8>) {
             vec![b' ' + generator.octet() % 96],
         ]
         .concat(),
-        _ => [one_of(generator, &words).as_bytes(), &octets[start..end]].concat(),
+        _ => [generator.one_of(&words).as_bytes(), &octets[start..end]].concat(),
     };
     octets.splice(start..end, inserted);
 }

@@ -6,6 +6,7 @@ mod support;
 #[path = "support/tool.rs"]
 mod tool;
 
+use inputs::{seed, Generator};
 use planner::address::{Group, Line};
 use planner::findings::{findings, Kind};
 use planner::loading::{load, load_text, translate};
@@ -13,7 +14,7 @@ use planner::plan::{Class, Coupler, Direction, Setting, Store, TableAt};
 use planner::text::{read, write, SiteText};
 use planner::tracing::{trace, Destination, Telegram};
 use std::fs;
-use support::generator::{inputs, seed, Generator};
+use support::emulated::number_of_inputs;
 use support::sites::{some_site, well_formed_site};
 use tool::{klumdray, root, scratch, Ended};
 
@@ -215,7 +216,7 @@ fn notes_for_scripts() {
 fn refusals_are_the_reference_s() {
     let generator = &mut Generator::new(seed());
     let mut refused = [0; 19];
-    for _ in 0..inputs(400, 100) {
+    for _ in 0..number_of_inputs(400, 100) {
         let text = write(&SiteText::of(some_site(generator)));
         let ended = check("random", &text, &[]);
         let text = read("a.site", text.as_bytes()).expect("a text that can be read");
@@ -378,7 +379,7 @@ fn is_one_way(text: &SiteText, coupler: &Coupler, closed: Direction, class: Clas
 fn notes_on_random_sites() {
     let generator = &mut Generator::new(seed());
     let mut drawn = Vec::new();
-    for _ in 0..inputs(500, 20) {
+    for _ in 0..number_of_inputs(500, 20) {
         let text = write(&SiteText::of(well_formed_site(generator)));
         let site = load_text("a.site", text.as_bytes()).expect("a well-formed site");
         let notes = findings(&site).expect("an answer").into_iter();

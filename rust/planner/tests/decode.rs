@@ -2,16 +2,13 @@
 
 #[path = "support/frames.rs"]
 mod frames;
-#[allow(dead_code)]
-#[path = "../../klumdray/tests/support/generator.rs"]
-mod generator;
 #[path = "support/json_reader.rs"]
 mod json_reader;
 #[allow(dead_code)]
 #[path = "../../klumdray/tests/support/rows.rs"]
 mod rows;
 
-use generator::{seed, Generator};
+use inputs::{seed, Generator};
 use json_reader::Value;
 use planner::commands::{run, Streams};
 use planner::frame::Kind;
@@ -693,10 +690,10 @@ fn help() {
 
 /// A text that is sometimes hex, sometimes nearly, and sometimes octets by chance.
 fn some_input(generator: &mut Generator) -> Vec<u8> {
-    let kind = Kind::ALL[generator.below(3) as usize];
+    let kind = Kind::ALL[generator.below(3)];
     let mut text = match generator.below(4) {
         0 => {
-            let length = generator.below(60) as usize;
+            let length = generator.below(60);
             return generator.octets(length);
         }
         1 => spaced(&frames::broken(generator, kind)),
@@ -706,8 +703,8 @@ fn some_input(generator: &mut Generator) -> Vec<u8> {
     .into_bytes();
     for _ in 0..generator.below(3) {
         let likely = b"0x:- #\n\r\tG\xff\x00";
-        let place = generator.below(text.len() as u64 + 1) as usize;
-        text.insert(place, likely[generator.below(likely.len() as u64) as usize]);
+        let place = generator.below(text.len() + 1);
+        text.insert(place, likely[generator.below(likely.len())]);
     }
     text
 }
@@ -722,7 +719,7 @@ fn any_input_is_answered() {
         let input = some_input(&mut generator);
         let json = generator.below(2) == 0;
         let mut words = vec![];
-        words.extend(flags.get(generator.below(6) as usize));
+        words.extend(flags.get(generator.below(6)));
         words.extend(json.then_some("--json"));
         let text = String::from_utf8_lossy(&input).into_owned();
         let ended = match generator.below(3) {

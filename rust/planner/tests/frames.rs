@@ -1,13 +1,13 @@
 //! Frames told apart, and the places of refusals, beside what the library's readers say.
 
+#[path = "support/emulated.rs"]
+mod emulated;
 #[path = "support/frames.rs"]
 mod frames;
-#[allow(dead_code)]
-#[path = "../../klumdray/tests/support/generator.rs"]
-mod generator;
 
+use emulated::number_of_inputs;
 use frames::{broken, mend_total, whole};
-use generator::{inputs, seed, Generator};
+use inputs::{seed, Generator};
 use klumdray::Refusal;
 use planner::frame::place::{place, Expected, Place};
 use planner::frame::{tell, Kind, Told};
@@ -94,7 +94,7 @@ fn octets_that_tell_nothing() {
 fn a_forced_kind_is_its_reader() {
     let mut generator = Generator::new(seed());
     for _ in 0..20_000 {
-        let made = Kind::ALL[generator.below(3) as usize];
+        let made = Kind::ALL[generator.below(3)];
         let octets = broken(&mut generator, made);
         for kind in Kind::ALL {
             let expected = match kind.read(&octets) {
@@ -264,7 +264,7 @@ fn a_place_is_where_its_refusal_comes_from() {
     println!("KLUMDRAY_SEED={seed:#x}");
     let mut generator = Generator::new(seed);
     let mut seen: BTreeMap<(&str, u8), usize> = BTreeMap::new();
-    let rounds = inputs(60_000, 6_000);
+    let rounds = number_of_inputs(60_000, 6_000);
     for round in 0..rounds {
         let kind = Kind::ALL[round % 3];
         let octets = broken(&mut generator, kind);

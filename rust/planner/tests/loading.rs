@@ -3,12 +3,12 @@
 
 mod support;
 
+use inputs::{seed, Generator};
 use klumdray::Refusal;
 use planner::loading::{load, load_text, Failure, RefusedSite};
 use planner::octets::octets_of;
 use std::fs;
 use std::path::Path;
-use support::generator::{seed, Generator};
 use support::layouts::some_layout;
 use support::refusal;
 use support::sites::{refused_site, well_formed_site};

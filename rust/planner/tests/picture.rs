@@ -10,6 +10,7 @@ mod support;
 #[path = "picture/xml.rs"]
 mod xml;
 
+use inputs::{seed, Generator};
 use klumdray::tracer::Reason;
 use planner::address::{Group, Individual, Line};
 use planner::loading::{load, translate, Site};
@@ -21,9 +22,7 @@ use queries::some_query;
 use shapes::{area, corners, ends, parts, Area};
 use std::collections::BTreeSet;
 use std::sync::OnceLock;
-use support::generator::{seed, Generator};
 use support::sites::well_formed_site;
-use support::{one_of, shuffle};
 use xml::{read, Element};
 
 const SITES: usize = 400;
@@ -86,8 +85,8 @@ const LETTERS: [char; 24] = [
 ];
 
 fn some_text(generator: &mut Generator) -> Option<String> {
-    let length = one_of(generator, &[0, 1, 5, 12, 20, 30, 200]);
-    let letters = (0..length).map(|_| one_of(generator, &LETTERS));
+    let length = generator.one_of(&[0, 1, 5, 12, 20, 30, 200]);
+    let letters = (0..length).map(|_| generator.one_of(&LETTERS));
     let text: String = letters.collect();
     (length > 0).then_some(text)
 }
@@ -495,7 +494,7 @@ fn the_order_of_the_records_does_not_matter() {
         let mut text = case.site.text.clone();
         let both = text.plan.couplers.iter().copied().zip(text.couplers);
         let mut both: Vec<_> = both.collect();
-        shuffle(&mut generator, &mut both);
+        generator.shuffle(&mut both);
         (text.plan.couplers, text.couplers) = both.into_iter().unzip();
         let other = Case::new(text, case.telegram);
         let drawn = |case: &Case| draw(&case.site, &case.telegram, &case.traced);

@@ -3,10 +3,10 @@
 
 mod support;
 
+use inputs::{seed, Generator};
 use planner::octets::{octets_of, plan_of, Octets, OWN_TABLES, PROJECT_TABLES};
 use planner::plan::{Plan, Store};
 use planner::text::{read, write, CouplerText, SiteText, TableText};
-use support::generator::{seed, Generator};
 use support::layouts::some_layout;
 use support::sites::some_site;
 

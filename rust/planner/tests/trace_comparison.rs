@@ -12,6 +12,7 @@ mod support;
 #[path = "support/tool.rs"]
 mod tool;
 
+use inputs::{seed, Generator};
 use json_reader::Value;
 use planner::plan::Plan;
 use planner::text::{write, SiteText};
@@ -22,15 +23,14 @@ use reference::site::{main_side, Site};
 use reference::tracer::{self, Query, Reason, Stop, ROOM_SIZE};
 use std::collections::{BTreeMap, BTreeSet};
 use std::{fs, panic, thread};
-use support::generator::{inputs, seed, Generator};
-use support::one_of;
+use support::emulated::number_of_inputs;
 use support::sites::{site_without_tables, spoil, well_formed_site};
 use tool::{klumdray, scratch, Ended, Printed};
 
 const THREADS: usize = 3;
 
 fn cases() -> usize {
-    inputs(1000, 40)
+    number_of_inputs(1000, 40)
 }
 
 /// Runs the cases in a few threads and counts what each was about. A case has a generator of its
@@ -88,7 +88,7 @@ impl Asked {
         let file = scratch(&name);
         let mut text = SiteText::of(plan);
         for coupler in &mut text.couplers {
-            coupler.label = one_of(generator, &LABELS).map(String::from);
+            coupler.label = generator.one_of(&LABELS).map(String::from);
         }
         fs::write(&file, write(&text)).expect("a scratch file");
         let words = words(generator, &query);

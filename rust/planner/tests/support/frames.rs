@@ -1,6 +1,6 @@
 //! Frames of each kind, whole and broken.
 
-use crate::generator::Generator;
+use inputs::Generator;
 use klumdray::cemi::{self, Code};
 use klumdray::{tp1, Meaning};
 use planner::frame::Kind;
@@ -38,7 +38,7 @@ fn message(
     code: Option<Code>,
 ) -> Vec<u8> {
     let codes = [Code::Request, Code::Confirmation, Code::Indication];
-    let code = code.unwrap_or(codes[generator.below(3) as usize]);
+    let code = code.unwrap_or(codes[generator.below(3)]);
     let mark = code == Code::Confirmation && generator.below(2) == 1;
     let mut room = [0; 300];
     let size = cemi::write(code, mark, meaning, payload, &mut room).expect("numbers in range");
@@ -59,9 +59,9 @@ fn meaning(generator: &mut Generator) -> Meaning {
         extended: generator.below(2) == 1,
         first_sending: generator.below(2) == 1,
         priority: generator.below(4) as u8,
-        source: generator.number() as u16,
+        source: generator.field(),
         group: generator.below(2) == 1,
-        destination: generator.below(3).min(1) as u16 * generator.number() as u16,
+        destination: generator.below(3).min(1) as u16 * generator.field(),
         count: generator.below(8) as u8,
     }
 }
@@ -79,12 +79,12 @@ pub fn broken(generator: &mut Generator, kind: Kind) -> Vec<u8> {
     let mut octets = whole(generator, kind);
     match generator.below(8) {
         0 => {
-            let length = generator.below(40) as usize;
+            let length = generator.below(40);
             return generator.octets(length);
         }
-        1 => octets.truncate(generator.below(octets.len() as u64) as usize),
+        1 => octets.truncate(generator.below(octets.len())),
         2 => {
-            let more = 1 + generator.below(20) as usize;
+            let more = 1 + generator.below(20);
             octets.extend(generator.octets(more));
         }
         _ => damage(generator, &mut octets),
@@ -103,10 +103,10 @@ fn damage(generator: &mut Generator, octets: &mut [u8]) {
             0 => octets.len(),
             _ => octets.len().min(16),
         };
-        let place = generator.below(reach as u64) as usize;
+        let place = generator.below(reach);
         let ends = [0x00, 0x0f, 0x10, 0xfe, 0xff];
         octets[place] = match generator.below(2) {
-            0 => ends[generator.below(5) as usize],
+            0 => ends[generator.below(5)],
             _ => generator.octet(),
         };
     }

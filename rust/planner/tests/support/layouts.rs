@@ -1,8 +1,7 @@
 //! A site's text in layouts by chance: comments, blank lines, tabs, line ends, ranges split,
 //! overlapping and in any order, addresses in each form, the short words, blocks in any order.
 
-use super::generator::Generator;
-use super::{below, one_of, shuffle};
+use inputs::Generator;
 use planner::address::Group;
 use planner::plan::{Class, Coupler, Direction, Groups, Plan, Setting, Store};
 use planner::text::{CouplerText, SiteText, TableText};
@@ -77,7 +76,7 @@ fn texts(site: &mut SiteText, store: Store) -> &mut [TableText] {
 fn some_names(generator: &mut Generator, plan: Plan) -> SiteText {
     let mut site = SiteText::of(plan);
     for (number, table) in site.project.iter_mut().chain(&mut site.own).enumerate() {
-        table.name = format!("{}{number}", one_of(generator, &NAMES));
+        table.name = format!("{}{number}", generator.one_of(&NAMES));
     }
     for coupler in &mut site.couplers {
         coupler.label = some_label(generator);
@@ -88,7 +87,7 @@ fn some_names(generator: &mut Generator, plan: Plan) -> SiteText {
 
 fn some_label(generator: &mut Generator) -> Option<String> {
     let is_there = generator.below(2) == 0;
-    is_there.then(|| one_of(generator, &LABELS).to_string())
+    is_there.then(|| generator.one_of(&LABELS).to_string())
 }
 
 #[derive(Clone, Copy)]
@@ -105,7 +104,7 @@ fn some_order(generator: &mut Generator, site: &SiteText) -> Vec<Block> {
         blocks.extend(site.tables(store).iter().map(|_| Block::Table(store)));
     }
     blocks.extend(site.title.iter().map(|_| Block::Title));
-    shuffle(generator, &mut blocks);
+    generator.shuffle(&mut blocks);
     blocks
 }
 
@@ -117,7 +116,7 @@ struct Layout<'g> {
 
 impl<'g> Layout<'g> {
     fn new(generator: &'g mut Generator) -> Layout<'g> {
-        let mark = one_of(generator, &["", "", "", "\u{feff}"]);
+        let mark = generator.one_of(&["", "", "", "\u{feff}"]);
         Layout {
             generator,
             text: mark.into(),
@@ -135,15 +134,17 @@ impl<'g> Layout<'g> {
     }
 
     fn end_line(&mut self) {
-        self.text += one_of(self.generator, &["\n", "\n", "\r\n"]);
+        self.text += self.generator.one_of(&["\n", "\n", "\r\n"]);
         self.lines += 1;
     }
 
     /// Blank lines and comments, indented or not.
     fn noise(&mut self) {
         while self.generator.below(4) == 0 {
-            self.text += one_of(self.generator, &["", "", " ", "\t\t"]);
-            self.text += one_of(self.generator, &["", COMMENTS[1], COMMENTS[2], COMMENTS[3]]);
+            self.text += self.generator.one_of(&["", "", " ", "\t\t"]);
+            self.text += self
+                .generator
+                .one_of(&["", COMMENTS[1], COMMENTS[2], COMMENTS[3]]);
             self.end_line();
         }
     }
@@ -154,14 +155,14 @@ impl<'g> Layout<'g> {
         let mut before = indented;
         for word in words {
             if before && *word != "," || self.generator.below(4) == 0 && self.may_space(indented) {
-                self.text += one_of(self.generator, &SPACES);
+                self.text += self.generator.one_of(&SPACES);
             }
             self.text += word;
             before = *word != ",";
         }
         if self.generator.below(4) == 0 {
-            self.text += one_of(self.generator, &["", " ", "\t"]);
-            self.text += one_of(self.generator, &COMMENTS);
+            self.text += self.generator.one_of(&["", " ", "\t"]);
+            self.text += self.generator.one_of(&COMMENTS);
         }
         self.end_line();
         self.lines
@@ -179,7 +180,7 @@ impl<'g> Layout<'g> {
         };
         let mut rest = &some_ranges(self.generator, groups)[..];
         while !rest.is_empty() {
-            let (ranges, behind) = rest.split_at(1 + below(self.generator, rest.len().min(5)));
+            let (ranges, behind) = rest.split_at(1 + self.generator.below(rest.len().min(5)));
             let at = self.ranges(ranges);
             table
                 .entries
@@ -190,7 +191,7 @@ impl<'g> Layout<'g> {
 
     /// A line of entries, all in one form.
     fn ranges(&mut self, ranges: &[(Group, Group)]) -> usize {
-        let form = one_of(self.generator, &FORMS);
+        let form = self.generator.one_of(&FORMS);
         let mut words = Vec::new();
         for (first, last) in ranges {
             if !words.is_empty() {
@@ -220,7 +221,7 @@ impl<'g> Layout<'g> {
         text.at = self.line(false, &head.collect::<Vec<_>>());
         let mut rows = self.rows(&coupler);
         rows.extend(name.map(|name| vec!["table".into(), name]));
-        shuffle(self.generator, &mut rows);
+        self.generator.shuffle(&mut rows);
         for row in rows {
             let at = self.line(true, &row.iter().map(String::as_str).collect::<Vec<_>>());
             note(text, &row[0], at);
@@ -252,7 +253,7 @@ impl<'g> Layout<'g> {
                 parts.push(("groups".into(), *lower));
             }
         }
-        shuffle(self.generator, &mut parts);
+        self.generator.shuffle(&mut parts);
         let mut words = vec![word.to_string()];
         for (class, setting) in parts {
             if words.len() > 1 {
@@ -293,11 +294,11 @@ fn some_ranges(generator: &mut Generator, groups: &Groups) -> Vec<(Group, Group)
         }
         ranges.push((from, last));
     }
-    shuffle(generator, &mut ranges);
+    generator.shuffle(&mut ranges);
     ranges
 }
 
 fn between(generator: &mut Generator, first: Group, last: Group) -> Group {
     let size = usize::from(last.0 - first.0) + 1;
-    Group(first.0 + below(generator, size) as u16)
+    Group(first.0 + generator.below(size) as u16)
 }

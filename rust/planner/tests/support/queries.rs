@@ -1,14 +1,13 @@
 //! Telegrams over a site, from a seed, and the octets of a site as document 01 lays them out: not
 //! by the tool, whose translation is compared with them.
 
-use crate::support::generator::Generator;
-use crate::support::one_of;
+use inputs::Generator;
 use planner::plan::{Groups, Plan, Setting, Store, TableAt};
 use reference::tracer::Query;
 
 /// From a coupler's line or near the destination, to what the site knows or anything.
 pub fn some_query(generator: &mut Generator, plan: &Plan) -> Query {
-    let kind = one_of(generator, &[0, 1, 1]);
+    let kind = generator.one_of(&[0, 1, 1]);
     let destination = match kind {
         0 => some_individual(generator, plan),
         _ => some_group(generator, plan),
@@ -16,12 +15,12 @@ pub fn some_query(generator: &mut Generator, plan: &Plan) -> Query {
     let [high, _] = destination.to_be_bytes();
     Query {
         start: match (kind, generator.below(2)) {
-            (0, 0) => one_of(generator, &[high, high & 0xf0, high ^ 1]),
+            (0, 0) => generator.one_of(&[high, high & 0xf0, high ^ 1]),
             _ => some_line(generator, plan),
         },
         kind,
         destination,
-        count: one_of(generator, &[0, 1, 2, 3, 4, 5, 6, 6, 6, 7, 7]),
+        count: generator.one_of(&[0, 1, 2, 3, 4, 5, 6, 6, 6, 7, 7]),
     }
 }
 
@@ -31,31 +30,28 @@ fn some_line(generator: &mut Generator, plan: &Plan) -> u8 {
     if lines.is_empty() || generator.below(8) == 0 {
         return generator.octet();
     }
-    one_of(generator, &lines)
+    generator.one_of(&lines)
 }
 
 /// A coupler's own address, another on its line or in its area, or any.
 fn some_individual(generator: &mut Generator, plan: &Plan) -> u16 {
-    let any = generator.number() as u16;
+    let any = generator.field();
     let own = u16::from(some_line(generator, plan)) << 8;
     let near = [own, own, own | any & 0xff, own & 0xf000 | any & 0xfff, any];
-    one_of(generator, &near)
+    generator.one_of(&near)
 }
 
 /// At an end of a range in a table or beside it, broadcast, where the classes meet, or any.
 fn some_group(generator: &mut Generator, plan: &Plan) -> u16 {
-    let any = generator.number() as u16;
+    let any = generator.field();
     let tables = plan.project.iter().chain(&plan.own);
     let ranges: Vec<_> = tables.flat_map(Groups::ranges).collect();
     if ranges.is_empty() || generator.below(3) == 0 {
-        return one_of(generator, &[0, 0, 1, 0x6fff, 0x7000, 0xffff, any, any]);
+        return generator.one_of(&[0, 0, 1, 0x6fff, 0x7000, 0xffff, any, any]);
     }
-    let (first, last) = one_of(generator, &ranges);
+    let (first, last) = generator.one_of(&ranges);
     let beside = [first.0.wrapping_sub(1), last.0.wrapping_add(1)];
-    one_of(
-        generator,
-        &[first.0, last.0, first.0, last.0, beside[0], beside[1]],
-    )
+    generator.one_of(&[first.0, last.0, first.0, last.0, beside[0], beside[1]])
 }
 
 /// The query in the command's words, with each form of a group address now and then.

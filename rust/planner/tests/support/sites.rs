@@ -1,8 +1,7 @@
 //! Sites from a seed: from none to all couplers, stores from empty to full, tables from empty to
 //! full, and now and then something that the library refuses.
 
-use super::generator::Generator;
-use super::{below, one_of, shuffle};
+use inputs::{plans, Generator};
 use planner::address::{Group, Line};
 use planner::octets::{OWN_TABLES, PROJECT_TABLES};
 use planner::plan::{Class, Coupler, Direction, Groups, Plan, Setting, Store, TableAt};
@@ -11,7 +10,7 @@ const BROADCAST: usize = Class::Broadcast as usize;
 const GROUP_CLASSES: [usize; 2] = [Class::LowerGroups as usize, Class::UpperGroups as usize];
 
 /// How often closed, filter and open come in a site.
-const SETTINGS: [[u64; 3]; 5] = [[1, 1, 1], [1, 3, 3], [0, 5, 1], [1, 10, 10], [0, 0, 1]];
+const SETTINGS: [[usize; 3]; 5] = [[1, 1, 1], [1, 3, 3], [0, 5, 1], [1, 10, 10], [0, 0, 1]];
 
 /// A well-formed site.
 pub fn well_formed_site(generator: &mut Generator) -> Plan {
@@ -54,7 +53,7 @@ fn site_with_tables(generator: &mut Generator, project: Vec<Groups>, own: Vec<Gr
         project,
         own,
     };
-    let weights = one_of(generator, &SETTINGS);
+    let weights = generator.one_of(&SETTINGS);
     for line in some_lines(generator) {
         let coupler = some_coupler(generator, &plan, line, &weights);
         plan.couplers.push(coupler);
@@ -66,20 +65,11 @@ fn site_with_tables(generator: &mut Generator, project: Vec<Groups>, own: Vec<Gr
 fn some_lines(generator: &mut Generator) -> Vec<Line> {
     let number = match generator.below(32) {
         0 => 255,
-        1 => below(generator, 256),
-        2..=8 => below(generator, 41),
-        _ => below(generator, 9),
+        1 => generator.below(256),
+        2..=8 => generator.below(41),
+        _ => generator.below(9),
     };
-    let mut lines: Vec<u8> = (1..=255).collect();
-    shuffle(generator, &mut lines);
-    let areas = [generator.octet() >> 4, generator.octet() >> 4];
-    match generator.below(3) {
-        0 => {}
-        1 => lines.sort_by_key(|line| line & 0x0f != 0),
-        _ => lines.sort_by_key(|line| !areas.contains(&(line >> 4))),
-    }
-    lines.truncate(number);
-    shuffle(generator, &mut lines);
+    let lines = plans::some_lines(generator, number, &[]);
     lines.into_iter().map(Line).collect()
 }
 
@@ -87,7 +77,7 @@ fn some_lines(generator: &mut Generator) -> Vec<Line> {
 fn some_tables(generator: &mut Generator, most: usize) -> Vec<Groups> {
     let number = match generator.below(1024) {
         0 => most,
-        _ => one_of(generator, &[0, 0, 1, 1, 2, 3, 5]),
+        _ => generator.one_of(&[0, 0, 1, 1, 2, 3, 5]),
     };
     (0..number).map(|_| some_groups(generator)).collect()
 }
@@ -105,11 +95,8 @@ fn some_groups(generator: &mut Generator) -> Groups {
 
 /// One group mostly, from anywhere or from where something changes.
 pub fn some_range(generator: &mut Generator) -> (Group, Group) {
-    let any = generator.number() as u16;
-    let first = one_of(
-        generator,
-        &[any, any, any, any & 0xfff, 0, 1, 0x6fff, 0x7000, 0xffff],
-    );
+    let any = generator.field();
+    let first = generator.one_of(&[any, any, any, any & 0xfff, 0, 1, 0x6fff, 0x7000, 0xffff]);
     let more = match generator.below(8) {
         0..=3 => 0,
         4..=6 => generator.below(20) as u16,
@@ -119,7 +106,12 @@ pub fn some_range(generator: &mut Generator) -> (Group, Group) {
 }
 
 /// A coupler that the library accepts: broadcast is not filtered, nor are groups without a table.
-fn some_coupler(generator: &mut Generator, plan: &Plan, line: Line, weights: &[u64; 3]) -> Coupler {
+fn some_coupler(
+    generator: &mut Generator,
+    plan: &Plan,
+    line: Line,
+    weights: &[usize; 3],
+) -> Coupler {
     let table = some_table(generator, plan);
     let mut settings = [[Setting::Closed; 4]; 2];
     for row in &mut settings {
@@ -139,7 +131,7 @@ fn some_coupler(generator: &mut Generator, plan: &Plan, line: Line, weights: &[u
     }
 }
 
-fn some_setting(generator: &mut Generator, weights: &[u64; 3]) -> Setting {
+fn some_setting(generator: &mut Generator, weights: &[usize; 3]) -> Setting {
     let place = generator.below(weights.iter().sum());
     let code = usize::from(place >= weights[0]) + usize::from(place >= weights[0] + weights[1]);
     Setting::ALL[code]
@@ -147,12 +139,12 @@ fn some_setting(generator: &mut Generator, weights: &[u64; 3]) -> Setting {
 
 /// A table of either store, or none.
 fn some_table(generator: &mut Generator, plan: &Plan) -> Option<TableAt> {
-    let store = one_of(generator, &[Store::Project, Store::Own]);
+    let store = generator.one_of(&[Store::Project, Store::Own]);
     let tables = plan.tables(store).len();
     if tables == 0 || generator.below(4) == 0 {
         return None;
     }
-    let place = below(generator, tables);
+    let place = generator.below(tables);
     Some(TableAt { store, place })
 }
 
@@ -162,16 +154,16 @@ pub fn spoil(generator: &mut Generator, plan: &mut Plan) {
     if plan.couplers.is_empty() {
         return;
     }
-    let other = below(generator, plan.couplers.len());
+    let other = generator.below(plan.couplers.len());
     let second = plan.couplers[other];
-    let place = below(generator, plan.couplers.len());
+    let place = generator.below(plan.couplers.len());
     let coupler = &mut plan.couplers[place];
-    let row = &mut coupler.settings[one_of(generator, &Direction::ALL) as usize];
+    let row = &mut coupler.settings[generator.one_of(&Direction::ALL) as usize];
     match generator.below(4) {
         0 => coupler.line = Line(0),
         1 => row[BROADCAST] = Setting::Filter,
         2 => {
-            row[one_of(generator, &GROUP_CLASSES)] = Setting::Filter;
+            row[generator.one_of(&GROUP_CLASSES)] = Setting::Filter;
             coupler.table = None;
         }
         _ => plan.couplers.insert(place, second),
