@@ -161,16 +161,15 @@ impl Series {
         let source = generator.one_of(&self.sources);
         let (group, destination) = generator.one_of(&self.addresses);
         let (given, payload) = &mut self.previous;
-        if send_again(generator, given, payload) {
-            return;
+        if !send_again(generator, given, payload) {
+            *given = Given {
+                source,
+                group,
+                destination,
+                ..frames::some_given(generator)
+            };
+            *payload = frames::some_payload(generator, given);
         }
-        *given = Given {
-            source,
-            group,
-            destination,
-            ..frames::some_given(generator)
-        };
-        *payload = frames::some_payload(generator, given);
     }
 }
 

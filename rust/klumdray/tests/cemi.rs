@@ -6,10 +6,10 @@ mod support;
 #[path = "support/wrong_messages.rs"]
 mod wrong_messages;
 
+use inputs::{seed, Generator};
 use messages::{
     all_shapes, assert_agrees, heads, likely_message, message, some_code, some_shapes, KINDS,
 };
-use support::generator::{seed, Generator};
 use support::{Comparison, Implementation};
 
 const REFERENCE: Implementation = messages::reference::<0>();

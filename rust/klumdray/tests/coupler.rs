@@ -3,8 +3,6 @@
 
 #[path = "support/couplers.rs"]
 mod couplers;
-#[path = "support/generator.rs"]
-mod generator;
 #[path = "support/traffic.rs"]
 mod traffic;
 #[path = "support/wrong_couplers.rs"]
@@ -12,14 +10,14 @@ mod wrong_couplers;
 
 use couplers::{library_step, packed, put_frame, reference_step, settings, Comparison, Lent};
 use couplers::{Stepper, LARGEST_ROOM, MEMORY};
-use generator::{seed, Generator};
+use inputs::{seed, Generator};
 use klumdray::coupler::{self, Medium, Memory, Settings, Side};
 use klumdray::{raw, Refusal};
 use reference::coupler::{Acknowledgement, Coupler, Outcome, TABLE_SIZE};
 use traffic::Series;
 
 const NUMBERS: [u8; 17] = [0, 1, 2, 3, 4, 5, 6, 7, 8, 9, 10, 11, 12, 13, 14, 15, 18];
-const LONGEST_SERIES: u64 = 100;
+const LONGEST_SERIES: usize = 100;
 
 /// How much is compared.
 #[derive(Clone, Copy)]
@@ -52,16 +50,16 @@ fn compare<'s>(
     let generator = &mut Generator::new(seed);
     let mut series = Series::new(generator);
     while comparison.steps() < extent.steps {
-        if generator.below(2) == 0 {
+        if generator.one_in(2) {
             series = Series::new(generator);
             comparison.forget();
         } else {
             series.set(generator);
         }
         for _ in 0..=generator.below(LONGEST_SERIES) {
-            if extent.spoils_sizes && generator.below(100) == 0 {
-                let more = [0, generator.below(65_536 - 264)][generator.below(2) as usize];
-                comparison.spoil_size(generator.below(2) as usize, 264 + more as u16);
+            if extent.spoils_sizes && generator.one_in(100) {
+                let more = [0, generator.below(65_536 - 264)][generator.below(2)];
+                comparison.spoil_size(generator.below(2), 264 + more as u16);
             }
             let step = series.step(generator);
             comparison.step(series.setting(&step), step.memory, &step.octets, step.room)?;

@@ -6,11 +6,12 @@ mod support;
 #[path = "support/wrong_messages.rs"]
 mod wrong_messages;
 
+use inputs::frames::mend_total;
+use inputs::{seed, Generator};
 use messages::{
     all_shapes, assert_agrees, heads, likely_message, message, some_code, some_shapes, KINDS,
     ROUTING,
 };
-use support::generator::{seed, Generator};
 use support::{Answer, Comparison, Implementation, Reader, Request, Writer};
 
 const REFERENCE: Implementation = messages::reference::<ROUTING>();
@@ -25,13 +26,6 @@ fn datagram(message: &[u8]) -> Vec<u8> {
     octets.extend(message);
     mend_total(&mut octets);
     octets
-}
-
-fn mend_total(octets: &mut [u8]) {
-    let total = octets.len() as u16;
-    if let Some(place) = octets.get_mut(4..6) {
-        place.copy_from_slice(&total.to_be_bytes());
-    }
 }
 
 /// The datagram, each octet damaged, each cut and 1 to 3 octets more, both with the total length
@@ -70,7 +64,7 @@ fn likely_datagram(generator: &mut Generator, length: usize) -> Vec<u8> {
     match generator.below(8) {
         0 => octets = generator.octets(length),
         1 => {
-            let place = generator.below(ROUTING as u64) as usize;
+            let place = generator.below(ROUTING);
             if let Some(octet) = octets.get_mut(place) {
                 *octet ^= generator.damage();
             }

@@ -2,7 +2,8 @@
 
 mod support;
 
-use support::generator::{seed, Generator};
+use inputs::frames::mend_check;
+use inputs::{seed, Generator};
 use support::{packed_size, Answer, Comparison, Implementation, Kind, Reader, Request, Writer};
 
 /// TP1 has neither message code nor error mark.
@@ -87,12 +88,6 @@ fn frame(request: &Request, payload: &[u8]) -> Vec<u8> {
     let written = reference::tp1::write(&request.given(), payload, &mut octets);
     assert_eq!(written, Ok(octets.len()));
     octets
-}
-
-fn mend_check(octets: &mut [u8]) {
-    if let Some((check, before)) = octets.split_last_mut() {
-        *check = reference::check_octet(before);
-    }
 }
 
 /// Octets of one length, more and more like a frame: by chance; with a control octet; with EFF

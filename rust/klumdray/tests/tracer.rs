@@ -1,8 +1,6 @@
 //! The comparison for sites and the tracer: the proved library and the bindings over it beside the
 //! reference, which floods the site from line to line.
 
-#[path = "support/generator.rs"]
-mod generator;
 #[path = "support/plans.rs"]
 mod plans;
 #[path = "support/sites.rs"]
@@ -14,11 +12,12 @@ mod wrong_sites;
 #[path = "support/wrong_tracers.rs"]
 mod wrong_tracers;
 
-use generator::{seed, Generator};
+use inputs::plans::{Plan, MOST_COUPLERS};
+use inputs::{seed, Generator};
 use klumdray::coupler::Side;
 use klumdray::raw::Site;
 use klumdray::tracer::Why;
-use plans::{Plan, Stores};
+use plans::{line_asked, site, some_query, some_stores};
 use reference::tracer::{way, Query, Stop, Traced};
 use sites::{library_trace, library_why, packed, packed_why};
 use sites::{Comparison, Tracer, LIBRARY, REFERENCE};
@@ -38,9 +37,9 @@ fn compare(proved: Tracer, reference: Tracer, seed: u64) -> Result<Comparison, S
     let mut comparison = Comparison::new(proved, reference);
     let generator = &mut Generator::new(seed);
     while comparison.sites() < SITES {
-        let stores = Stores::new(generator);
+        let stores = some_stores(generator);
         for _ in 0..SITES_OF_A_STORE {
-            let plan = Plan::new(generator, &stores);
+            let plan = Plan::new(generator, &stores, MOST_COUPLERS);
             comparison.add_site();
             compare_site(&mut comparison, generator, &plan)?;
         }
@@ -53,17 +52,17 @@ fn compare_site(
     generator: &mut Generator,
     plan: &Plan<'_>,
 ) -> Result<(), String> {
-    let site = plan.site();
+    let site = site(plan);
     let asks_every_line = comparison.sites() % SITES_FOR_EVERY_LINE == 0;
     for _ in 0..TRACES_OF_A_SITE {
-        let query = plan.query(generator);
+        let query = some_query(generator, plan);
         let room = match generator.below(16) {
-            place @ 0..4 => ROOMS[place as usize],
-            place => ROOMS[2 + place as usize % 2],
+            place @ 0..4 => ROOMS[place],
+            place => ROOMS[2 + place % 2],
         };
         let listed = comparison.trace(&query, &site, room)?;
         for _ in 0..WHYS_OF_A_TRACE {
-            let line = plan.line_asked(generator, &query);
+            let line = line_asked(generator, plan, &query);
             comparison.why(&query, &site, line)?;
         }
         if asks_every_line && !listed.is_empty() {

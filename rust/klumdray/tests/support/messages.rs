@@ -1,7 +1,7 @@
 //! cEMI messages for the comparisons, alone (HEADER 0) or behind a KNXnet/IP header (HEADER 6).
 
-use crate::support::generator::Generator;
 use crate::support::{packed_size, Answer, Comparison, Implementation, Kind, Request};
+use inputs::{seed, Generator};
 use std::ops::RangeInclusive;
 
 /// Octets of a KNXnet/IP header.
@@ -194,7 +194,7 @@ pub fn some_shapes(generator: &mut Generator) -> Vec<Shape> {
     let mut shapes = Vec::new();
     for extended in [0, 1] {
         for a in 0..=254 {
-            let payload = 1 + generator.below(*lengths(extended).end() as u64) as usize;
+            let payload = 1 + generator.below(*lengths(extended).end());
             shapes.push(Shape {
                 extended,
                 a,
@@ -202,7 +202,7 @@ pub fn some_shapes(generator: &mut Generator) -> Vec<Shape> {
             });
         }
         for payload in lengths(extended) {
-            let a = generator.below(255) as usize;
+            let a = generator.below(255);
             shapes.push(Shape {
                 extended,
                 a,
@@ -227,7 +227,7 @@ pub fn message(generator: &mut Generator, code: u8, shape: Shape) -> Vec<u8> {
 }
 
 pub fn some_code(generator: &mut Generator) -> u8 {
-    CODES[generator.below(3) as usize]
+    generator.one_of(&CODES)
 }
 
 /// Octets of one length, more and more like a message: by chance; with a message code; with a
@@ -242,7 +242,7 @@ pub fn likely_message(generator: &mut Generator, length: usize) -> Vec<u8> {
         octets[1] = match generator.below(16) {
             0 => 255,
             1 => 0,
-            _ => generator.below(length.min(255) as u64) as u8,
+            _ => generator.below(length.min(255)) as u8,
         };
     }
     if likeness >= 3 && length >= 2 {
@@ -299,7 +299,7 @@ pub fn assert_agrees(
     [proved, reference]: [Implementation; 2],
     numbers: &[u8],
 ) {
-    let seed = crate::support::generator::seed();
+    let seed = seed();
     println!("{name} and reference, KLUMDRAY_SEED={seed:#x}");
     match compare(proved, reference, seed) {
         Ok(comparison) => {

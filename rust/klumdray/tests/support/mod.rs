@@ -1,9 +1,7 @@
 //! What the comparisons share: two implementations are asked the same, and the first answer,
 //! part or room in which they differ is reported.
 
-pub mod generator;
-
-use generator::Generator;
+use inputs::Generator;
 use std::fmt;
 
 /// A message code as its octet, 0 on TP1, and an error mark, in their ranges or not.
@@ -36,9 +34,9 @@ impl Request {
             extended,
             first_sending: generator.below(2) as u8,
             priority: generator.below(4) as u8,
-            source: generator.number() as u16,
+            source: generator.field(),
             group: generator.below(2) as u8,
-            destination: generator.number() as u16,
+            destination: generator.field(),
             count: generator.below(8) as u8,
         }
     }
@@ -252,7 +250,7 @@ impl Comparison {
         }
         for &kind in kinds {
             for request in all_fields(generator, kind) {
-                let length = [1, 2, 15, 16, 17, 255][generator.below(6) as usize];
+                let length = generator.one_of(&[1, 2, 15, 16, 17, 255]);
                 self.rooms(&request, &payload[..length], size(&request, length))?;
             }
         }

@@ -2,13 +2,11 @@
 //! repetitions come about, and now and then something wrong in any of them.
 
 use crate::couplers::{is_from_ip, settings, Setting, CODES, LINE, MEDIUM, MEMORY, SETTINGS};
-use crate::generator::Generator;
+use inputs::frames::{damage_tp1, mend_total, tp1};
+use inputs::traffic::{send_again, some_address, some_line, Address};
+use inputs::{tables, Generator};
+use reference::coupler::TABLE_SIZE;
 use reference::Given;
-
-const TABLE: usize = 8192;
-
-/// AT and destination.
-type Address = (u8, u16);
 
 /// One step of a series, apart from its filter table.
 pub struct Step {
@@ -33,7 +31,7 @@ pub struct Series {
 impl Series {
     pub fn new(generator: &mut Generator) -> Series {
         let line = some_line(generator);
-        let sources = [generator.number() as u16, generator.number() as u16];
+        let sources = [generator.field(), generator.field()];
         let addresses = [0; 4].map(|_| some_address(generator, line));
         let mut series = Series {
             line,
@@ -52,7 +50,7 @@ impl Series {
     pub fn set(&mut self, generator: &mut Generator) {
         let medium = generator.below(2) as u8;
         let mut codes = [[0; 4]; 2].map(|row| row.map(|_: u8| generator.below(3) as u8));
-        let length = if generator.below(6) == 0 { 0 } else { TABLE };
+        let length = if generator.one_in(6) { 0 } else { TABLE_SIZE };
         for [_, broadcast, groups @ ..] in &mut codes {
             *broadcast &= 2;
             if length == 0 {
@@ -60,27 +58,27 @@ impl Series {
             }
         }
         self.settings = settings(self.line, codes, medium);
-        self.table = some_table(generator, length, &self.addresses);
-        if generator.below(8) == 0 {
+        self.table = tables::with_addresses(generator, length, &self.addresses);
+        if generator.one_in(8) {
             self.spoil(generator);
         }
     }
 
     fn spoil(&mut self, generator: &mut Generator) {
-        if generator.below(3) == 0 {
+        if generator.one_in(3) {
             self.settings[LINE] = 0;
         }
-        if generator.below(3) == 0 {
-            let place = generator.below(8) as usize;
+        if generator.one_in(3) {
+            let place = generator.below(8);
             self.settings[CODES][place] = match generator.below(3) {
                 0 => 1,
                 1 => 3,
                 _ => generator.octet(),
             };
         }
-        if generator.below(3) == 0 {
-            let length = one_of(generator, &[0, TABLE - 1, TABLE + 1]);
-            self.table = some_table(generator, length, &self.addresses);
+        if generator.one_in(3) {
+            let length = generator.one_of(&[0, TABLE_SIZE - 1, TABLE_SIZE + 1]);
+            self.table = tables::with_addresses(generator, length, &self.addresses);
         }
     }
 
@@ -97,18 +95,18 @@ impl Series {
             settings: self.settings.to_vec(),
             side: generator.below(2) as u8,
             memory: MEMORY,
-            room: one_of(generator, &[272, 300]),
+            room: generator.one_of(&[272, 300]),
             octets: Vec::new(),
         };
         self.next_frame(generator);
         let (numbers, payload) = &self.previous;
-        let mistaken = generator.below(64) == 0;
+        let mistaken = generator.one_in(64);
         step.octets = if is_from_ip(&self.setting(&step)) != mistaken {
             some_datagram(generator, numbers, payload)
         } else {
             some_frame(generator, numbers, payload)
         };
-        if generator.below(8) == 0 {
+        if generator.one_in(8) {
             spoil_lent(generator, &mut step);
         }
         step
@@ -116,70 +114,19 @@ impl Series {
 
     /// A new frame, or the one before with nothing, or little, changed.
     fn next_frame(&mut self, generator: &mut Generator) {
-        let source = one_of(generator, &self.sources);
-        let address = one_of(generator, &self.addresses);
+        let source = generator.one_of(&self.sources);
+        let address = generator.one_of(&self.addresses);
         let (numbers, payload) = &mut self.previous;
-        match generator.below(12) {
-            0 | 1 => numbers.first_sending = 0,
-            2 => numbers.first_sending = 1,
-            3 => numbers.count = generator.below(8) as u8,
-            4 => {
-                numbers.first_sending = 0;
-                payload[0] ^= generator.damage();
-            }
-            _ => {
-                *numbers = some_numbers(generator, source, address);
-                *payload = some_payload(generator, numbers);
-            }
+        if !send_again(generator, numbers, payload) {
+            *numbers = some_numbers(generator, source, address);
+            *payload = some_payload(generator, numbers);
         }
     }
-}
-
-fn one_of<T: Copy>(generator: &mut Generator, choices: &[T]) -> T {
-    choices[generator.below(choices.len() as u64) as usize]
-}
-
-/// Lines of area 0, area couplers, the last line, any.
-fn some_line(generator: &mut Generator) -> u8 {
-    match generator.below(8) {
-        0 | 1 => 1 + generator.below(15) as u8,
-        2 | 3 => (1 + generator.below(15) as u8) << 4,
-        4 => 0xff,
-        _ => generator.damage(),
-    }
-}
-
-/// Around the coupler's own address, on and off its line and area; groups around their borders.
-fn some_address(generator: &mut Generator, line: u8) -> Address {
-    let (own, any) = (u16::from(line) << 8, generator.number() as u16);
-    let (on_line, in_area) = (own | any & 0xff, own & 0xf000 | any & 0xfff);
-    let individual = [own, own, on_line, in_area, any, 0, own & 0xf000];
-    let group = [0, 0, 1, any & 0xfff, 0x6fff, 0x7000, 0xffff, any, own];
-    match generator.below(2) {
-        0 => (0, one_of(generator, &individual)),
-        _ => (1, one_of(generator, &group)),
-    }
-}
-
-/// Few bits or many or by chance, where half of the addresses in use are listed.
-fn some_table(generator: &mut Generator, length: usize, addresses: &[Address]) -> Vec<u8> {
-    let mut table = match generator.below(3) {
-        0 => vec![0; length],
-        1 => vec![0xff; length],
-        _ => generator.octets(length),
-    };
-    let chance = generator.number() as u16;
-    for &(_, address) in addresses.iter().chain([&(1, chance)]) {
-        if let Some(octet) = table.get_mut(usize::from(address / 8)) {
-            *octet ^= (generator.below(2) as u8) << (address % 8);
-        }
-    }
-    table
 }
 
 fn some_numbers(generator: &mut Generator, source: u16, (group, destination): Address) -> Given {
     Given {
-        extended: u8::from(generator.below(3) == 0),
+        extended: u8::from(generator.one_in(3)),
         first_sending: generator.below(2) as u8,
         priority: generator.below(4) as u8,
         source,
@@ -194,41 +141,17 @@ fn some_payload(generator: &mut Generator, numbers: &Given) -> Vec<u8> {
         (1, 0) => 255,
         _ => 16,
     };
-    let length = 1 + generator.below(most) as usize;
+    let length = 1 + generator.below(most);
     generator.octets(length)
 }
 
 /// A TP1 frame, in one case of eight damaged.
 fn some_frame(generator: &mut Generator, numbers: &Given, payload: &[u8]) -> Vec<u8> {
-    let mut octets = vec![0; payload.len() + 7 + usize::from(numbers.extended)];
-    let written = reference::tp1::write(numbers, payload, &mut octets);
-    assert_eq!(written, Ok(octets.len()));
-    if generator.below(8) == 0 {
-        damage_frame(generator, &mut octets);
+    let mut octets = tp1(numbers, payload);
+    if generator.one_in(8) {
+        damage_tp1(generator, &mut octets);
     }
     octets
-}
-
-fn damage_frame(generator: &mut Generator, octets: &mut Vec<u8>) {
-    let place = generator.below(octets.len() as u64) as usize;
-    let damage = generator.damage();
-    match generator.below(10) {
-        0 => octets.truncate(place),
-        1 => octets.push(damage),
-        2 => octets[place] ^= damage,
-        3 => octets[0] = one_of(generator, &[0xcc, 0x0c, 0xc0, 0xf0, damage]),
-        4 => octets[1] |= damage & 0x0f,
-        5 => octets[6] = 255,
-        6 => octets[6] = octets[6].wrapping_add(1),
-        7 => octets[5] ^= 1,
-        8 => octets[place.min(7)] ^= damage,
-        _ => *octets = generator.octets(place),
-    }
-    if generator.below(3) == 0 {
-        if let Some((check, before)) = octets.split_last_mut() {
-            *check = reference::check_octet(before);
-        }
-    }
 }
 
 /// A routing datagram with additional information and the bits of Ctrl1 that are not read in any
@@ -238,21 +161,21 @@ fn some_datagram(generator: &mut Generator, numbers: &Given, payload: &[u8]) -> 
     let written = reference::routing::write(0x29, 0, numbers, payload, &mut octets);
     assert_eq!(written, Ok(octets.len()));
     octets[8] ^= generator.octet() & 0b0101_0011;
-    if generator.below(3) == 0 {
-        let bound = one_of(generator, &[8, 255]);
+    if generator.one_in(3) {
+        let bound = generator.one_of(&[8, 255]);
         let a = generator.below(bound) as u8;
         octets[7] = a;
         octets.splice(8..8, generator.octets(a.into()));
         mend_total(&mut octets);
     }
-    if generator.below(8) == 0 {
+    if generator.one_in(8) {
         damage_datagram(generator, &mut octets);
     }
     octets
 }
 
 fn damage_datagram(generator: &mut Generator, octets: &mut Vec<u8>) {
-    let place = generator.below(octets.len() as u64) as usize;
+    let place = generator.below(octets.len());
     let ctrl1 = 8 + usize::from(octets[7]);
     let damage = generator.damage();
     match generator.below(14) {
@@ -271,21 +194,14 @@ fn damage_datagram(generator: &mut Generator, octets: &mut Vec<u8>) {
         12 => octets[ctrl1 + place % 7] ^= damage,
         _ => *octets = generator.octets(place),
     }
-    if generator.below(3) == 0 {
+    if generator.one_in(3) {
         mend_total(octets);
-    }
-}
-
-fn mend_total(octets: &mut [u8]) {
-    let total = octets.len() as u16;
-    if let Some(place) = octets.get_mut(4..6) {
-        place.copy_from_slice(&total.to_be_bytes());
     }
 }
 
 /// Numbers out of their ranges and lengths that are too small or too large, several at once.
 fn spoil_lent(generator: &mut Generator, step: &mut Step) {
-    let mut some = |one_in| generator.below(one_in) == 0;
+    let mut some = |cases| generator.one_in(cases);
     if some(4) {
         step.side = if some(2) { 2 } else { 255 };
     }
