@@ -106,8 +106,9 @@ impl Series {
     }
 
     pub fn step(&mut self, generator: &mut Generator) -> Call {
-        self.next_frame(generator);
-        if generator.one_in(3) {
+        // What is sent again mostly comes from the same side: else it would hardly be a repetition.
+        let again = self.next_frame(generator);
+        if generator.one_in(if again { 8 } else { 3 }) {
             self.side ^= 1;
         }
         let octets = self.some_octets(generator, self.side);
@@ -156,12 +157,13 @@ impl Series {
         octets.into()
     }
 
-    /// A new frame, or the one before with nothing, or little, changed.
-    fn next_frame(&mut self, generator: &mut Generator) {
+    /// A new frame, or the one before with nothing, or little, changed: whether it is sent again.
+    fn next_frame(&mut self, generator: &mut Generator) -> bool {
         let source = generator.one_of(&self.sources);
         let (group, destination) = generator.one_of(&self.addresses);
         let (given, payload) = &mut self.previous;
-        if !send_again(generator, given, payload) {
+        let again = send_again(generator, given, payload);
+        if !again {
             *given = Given {
                 source,
                 group,
@@ -170,6 +172,7 @@ impl Series {
             };
             *payload = frames::some_payload(generator, given);
         }
+        again
     }
 }
 
