@@ -17,6 +17,7 @@ use Rattle.cemi.specs.declared.Codes.{Codes}
 use Rattle.cemi.specs.declared.Codes.the-variants.{All, IndicationOnly}
 use Rattle.cemi.specs.declared.Message.{Message}
 use Rattle.coupler.specs.Step.{heard, nothing}
+use Rattle.frame.proofs.Apart.{refuse-one}
 use Rattle.frame.proofs.Numbers.{number-some}
 use Rattle.frame.proofs.Order.{givesNot, never-given, chose-refused}
 use Rattle.frame.proofs.Valid.{Ranges, ranges-of, ranged}
@@ -290,24 +291,40 @@ module _ (start kind destination count : ℕ) where
 -- the step
 
 -- "Refusals, the first that applies: settings not 10 or memory not 530 octets long (14), line or a code (15), the table's length (18), side
--- or medium (14)"
-abbrev pub beforeTheSide : List ℕ → List ℕ → List ℕ → Refusal
-beforeTheSide settings table block =
-    cond (lentRight settings block)
-    (cond (eqb (octetAt settings 0) 0 || not (areCodes (codesIn settings))) WrongSetting
-    (cond (not (tableFits (codesIn settings) (length table))) NoTable OutOfRange))
-    OutOfRange
+-- or medium (14)": the order of a step whose side is none
+abbrev pub upToTheSide : List ℕ → List ℕ → List ℕ → List Test
+upToTheSide settings table block =
+    not (lentRight settings block) gives OutOfRange
+    ∷ (eqb (octetAt settings 0) 0 || not (areCodes (codesIn settings))) gives WrongSetting
+    ∷ not (tableFits (codesIn settings) (length table)) gives NoTable
+    ∷ true gives OutOfRange
+    ∷ []
+
+-- the one that it comes to
+abbrev drawn : List ℕ → List ℕ → List ℕ → Refusal
+drawn settings table block = cond (lentRight settings block) (unsided settings table) OutOfRange
+
+first-drawn : (settings table block : List ℕ) → firstOf (upToTheSide settings table block) ≡ Refuse (drawn settings table block)
+first-drawn settings table block = go (lentRight settings block) (eqb (octetAt settings 0) 0 || not (areCodes (codesIn settings))) (tableFits (codesIn settings) (length table))
+  where
+    go : (right wrong fits : Bool) → firstOf (not right gives OutOfRange ∷ wrong gives WrongSetting ∷ not fits gives NoTable ∷ true gives OutOfRange ∷ [])
+        ≡ Refuse (cond right (cond wrong WrongSetting (cond (not fits) NoTable OutOfRange)) OutOfRange)
+    go false wrong fits = refl
+    go true true fits = refl
+    go true false true = refl
+    go true false false = refl
 
 -- "side: the receiving side, 0 main, 1 sub": every other number draws its 14, or what comes before it, and room and memory stay
 pub step-side : (settings table block s room : List ℕ) (side answer : ℕ) (block′ room′ : List ℕ) → Octets s → Octets block
     → SteppedThrough (lentRight settings block) (couplerSet settings side table) block s room answer block′ room′
-    → (AllInside (side from 0 to 1 ∷ []) → ⊥)
-    → (answer ≡ number (beforeTheSide settings table block)) × ((block′ ≡ block) × (room′ ≡ room))
+    → (AllInside (side from 0 to 1 ∷ []) → ⊥) → (r : Refusal) → firstOf (upToTheSide settings table block) ≡ Refuse r
+    → (answer ≡ number r) × ((block′ ≡ block) × (room′ ≡ room))
 unfolding heardThrough
-step-side settings table block s room side answer block′ room′ o ob w n =
+step-side settings table block s room side answer block′ room′ o ob w n r f =
     let none : ltb side 2 ≡ false = by-cases (ltb side 2) (λ e. absurd (n (up-to side 1 (ltb-true side 2 e), tt))) (λ e. e) in
-    let a : answer ≡ number (beforeTheSide settings table block) = refused-answer w (beforeTheSide settings table block) (heard-none none (lentRight settings block)) in
-    let some : numberIn answer ≡ 0 → ⊥ = λ z. number-some (beforeTheSide settings table block) (sym (ap numberIn a ∙ number-alone (beforeTheSide settings table block)) ∙ z) in
+    let d : drawn settings table block ≡ r = refuse-one (sym (first-drawn settings table block) ∙ f) in
+    let a : answer ≡ number r = refused-answer w (drawn settings table block) (heard-none none (lentRight settings block)) ∙ ap number d in
+    let some : numberIn answer ≡ 0 → ⊥ = λ z. number-some r (sym (ap numberIn a ∙ number-alone r) ∙ z) in
     (a, step-refused-stays settings (couplerSet settings side table) block s room answer block′ room′ o w ob some)
   where
     heard-none : ltb side 2 ≡ false → (right : Bool) → cond right (heard (couplerSet settings side table) s (length room)) (nothing OutOfRange) ≡ nothing (cond right (unsided settings table) OutOfRange)
