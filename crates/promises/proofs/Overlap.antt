@@ -11,7 +11,10 @@ use Rattle.klumdray.specs.Decoding.{overlapping, InBoth}
 
 -- "1 if two slices have an octet in common, else 0": the later of the two beginnings is such an octet
 module _ (from n other m : ℕ) where
-  shared : (b : Bool) → leb from other ≡ b → cond b (ltb (other - from) n && ltb 0 m) (ltb (from - other) m && ltb 0 n) ≡ true → (place : ℕ) × InBoth from n other m place
+  abbrev tested : Bool → Bool
+  tested before = cond before (ltb (other - from) n && ltb 0 m) (ltb (from - other) m && ltb 0 n)
+
+  shared : (before : Bool) → leb from other ≡ before → tested before ≡ true → (place : ℕ) × InBoth from n other m place
   shared true l e =
       let t = and-true (ltb (other - from) n) (ltb 0 m) e in
       let h = leb-true from other l in
@@ -25,7 +28,7 @@ module _ (from n other m : ℕ) where
       let b = ltb-true 0 n (t .1) in
       (from, record { first = (omega arith, omega (arith, b)); second = (omega (arith, h), omega (arith, a, h)) })
 
-  seen : (place : ℕ) → InBoth from n other m place → (b : Bool) → leb from other ≡ b → cond b (ltb (other - from) n && ltb 0 m) (ltb (from - other) m && ltb 0 n) ≡ true
+  seen : (place : ℕ) → InBoth from n other m place → (before : Bool) → leb from other ≡ before → tested before ≡ true
   seen place x true l =
       let h = leb-true from other l in
       rw (lt-ltb (other - from) n (omega (arith, h, x .first .1, x .second .0)), lt-ltb 0 m (omega (arith, x .second .0, x .second .1)))
