@@ -8,7 +8,7 @@ use lib.Dec.{leb, eqb}
 use lib.ListN.{getD}
 use borrow.Author.Tests.{leb-true, eqb-false, ne-eqb}
 use Rattle.frame.specs.Refusals.{number, lastNumber}
-use Rattle.frame.specs.declared.Refusal.the-variants.{TooFew, NotData, OtherFormat, Escape, LeftOver, WrongCheck, OtherCode, InformationEscape, LongStandard, OtherHeader, OtherService, OtherLength, SmallRoom, OutOfRange, WrongSetting, WrongRecord, LineTwice, NoTable}
+use Rattle.frame.specs.declared.Refusal.the-variants.{TooFew, NotData, OtherFormat, Escape, LeftOver, WrongCheck, OtherCode, InformationEscape, LongStandard, OtherHeader, OtherService, OtherLength, SmallRoom, OutOfRange, WrongSetting, WrongRecord, LineTwice, NoTable, OtherConnection, NotOpen, OtherCounter}
 use Rattle.frame.specs.declared.Refusal.{Refusal}
 use Rattle.octets.proofs.Truth.{and-true}
 
@@ -33,6 +33,9 @@ rows =
     ∷ WrongRecord
     ∷ LineTwice
     ∷ NoTable
+    ∷ OtherConnection
+    ∷ NotOpen
+    ∷ OtherCounter
     ∷ []
 
 abbrev numbered : ℕ → Refusal
@@ -58,6 +61,9 @@ row WrongSetting = (refl, refl)
 row WrongRecord = (refl, refl)
 row LineTwice = (refl, refl)
 row NoTable = (refl, refl)
+row OtherConnection = (refl, refl)
+row NotOpen = (refl, refl)
+row OtherCounter = (refl, refl)
 
 pub number-listed : (r : Refusal) → (1 ≤ number r) × (number r ≤ lastNumber)
 number-listed r = let b = and-true _ _ (row r .0) in (leb-true 1 (number r) (b .0), leb-true (number r) lastNumber (b .1))

@@ -1,8 +1,8 @@
--- Document 01, "Refusal numbers": the table. 0 is not a refusal. tools/make-surface writes that of the C header and of the Rust bindings
+-- Document 01, "Refusal numbers": the table, as document 02 amends it. 0 is not a refusal. tools/make-surface writes that of the C header and of the Rust bindings
 -- from it: a row is its words and then its number.
 use Prim.Native.Nat.{ℕ}
 use Rattle.frame.specs.declared.Refusal.{Refusal}
-use Rattle.frame.specs.declared.Refusal.the-variants.{TooFew, NotData, OtherFormat, Escape, LeftOver, WrongCheck, OtherCode, InformationEscape, LongStandard, OtherHeader, OtherService, OtherLength, SmallRoom, OutOfRange, WrongSetting, WrongRecord, LineTwice, NoTable}
+use Rattle.frame.specs.declared.Refusal.the-variants.{TooFew, NotData, OtherFormat, Escape, LeftOver, WrongCheck, OtherCode, InformationEscape, LongStandard, OtherHeader, OtherService, OtherLength, SmallRoom, OutOfRange, WrongSetting, WrongRecord, LineTwice, NoTable, OtherConnection, NotOpen, OtherCounter}
 
 abbrev pub number : Refusal → ℕ
 -- fewer octets than the frame needs
@@ -25,7 +25,7 @@ number InformationEscape = 8
 number LongStandard = 9
 -- KNXnet/IP header length not 06h or version not 10h
 number OtherHeader = 10
--- service not 0530h
+-- service not the one wanted
 number OtherService = 11
 -- total length differs from the datagram's
 number OtherLength = 12
@@ -41,7 +41,13 @@ number WrongRecord = 16
 number LineTwice = 17
 -- filter table missing or of wrong size
 number NoTable = 18
+-- connection header's first octet not 04h
+number OtherConnection = 19
+-- channel not open
+number NotOpen = 20
+-- counter not one that the channel awaits
+number OtherCounter = 21
 
 -- the table's last number
 abbrev pub lastNumber : ℕ
-lastNumber = 18
+lastNumber = 21

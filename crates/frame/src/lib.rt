@@ -17,7 +17,7 @@ pub struct Meaning {
     pub count: u8,
 }
 
-// The rows of document 01's table, in its order.
+// The rows of document 01's table, with document 02's behind them, in the order of their numbers.
 pub enum Refusal {
     TooFew,
     NotData,
@@ -37,6 +37,9 @@ pub enum Refusal {
     WrongRecord,
     LineTwice,
     NoTable,
+    OtherConnection,
+    NotOpen,
+    OtherCounter,
 }
 
 // What tests in their order find: nothing to refuse, or the first refusal.
@@ -74,6 +77,9 @@ impl Refusal {
             Refusal::WrongRecord => 16,
             Refusal::LineTwice => 17,
             Refusal::NoTable => 18,
+            Refusal::OtherConnection => 19,
+            Refusal::NotOpen => 20,
+            Refusal::OtherCounter => 21,
         }
     }
 }

@@ -17,7 +17,7 @@ headerOf service total = 0x06 ∷ 0x10 ∷ high service ∷ low service ∷ high
 unfoldable pub isOtherHeader : List ℕ → Bool
 isOtherHeader s = not (eqb (octetAt s 0) 0x06 && eqb (octetAt s 1) 0x10)
 
--- "service not 0530h"
+-- "Refusal 11 now names the service wanted by the call" (R-1)
 unfoldable pub isOtherService : ℕ → List ℕ → Bool
 isOtherService service s = not (eqb (wordAt s 2) service)
 

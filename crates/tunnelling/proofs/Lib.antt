@@ -1,0 +1,2 @@
+pub mod ConnectionLaws
+pub mod LayoutLaws
