@@ -7,6 +7,7 @@
 
 pub mod cemi;
 pub mod coupler;
+mod header;
 pub mod refusal;
 pub mod routing;
 pub mod site;

@@ -1,26 +1,15 @@
 //! KNXnet/IP ROUTING_INDICATION: "Routing datagram".
 
 use crate::cemi::{self, Frame};
-use crate::refusal::{HEADER, MESSAGE_CODE, RANGE, SERVICE, TOO_FEW, TOTAL_LENGTH};
-use crate::{front, Given, Meaning};
+use crate::refusal::{MESSAGE_CODE, RANGE};
+use crate::{front, header, Given, Meaning};
 
+const ROUTING_INDICATION: u16 = 0x0530;
 const INDICATION: u8 = 0x29;
-const HEADER_SIZE: usize = 6;
 
 /// "Routing: fewer than 6 octets (1), 10, 11, 12, then cEMI's."
 pub fn read(octets: &[u8]) -> Result<Frame<'_>, u8> {
-    let &[length, version, v1, v0, t1, t0, ref message @ ..] = octets else {
-        return Err(TOO_FEW);
-    };
-    if length != 0x06 || version != 0x10 {
-        return Err(HEADER);
-    }
-    if [v1, v0] != [0x05, 0x30] {
-        return Err(SERVICE);
-    }
-    if usize::from(u16::from_be_bytes([t1, t0])) != octets.len() {
-        return Err(TOTAL_LENGTH);
-    }
+    let message = header::read(octets, ROUTING_INDICATION)?;
     // "in routing, not 29h" is also 7, in the place that cEMI's order gives it.
     match message.first() {
         Some(&code) if code != INDICATION => Err(MESSAGE_CODE),
@@ -48,10 +37,8 @@ pub(crate) fn write_meaning(
     payload: &[u8],
     room: &mut [u8],
 ) -> Result<usize, u8> {
-    let size = HEADER_SIZE + cemi::HEAD_SIZE + payload.len();
-    let (header, message) = front(room, size)?.split_at_mut(HEADER_SIZE);
-    let [t1, t0] = (size as u16).to_be_bytes();
-    header.copy_from_slice(&[0x06, 0x10, 0x05, 0x30, t1, t0]);
+    let size = header::SIZE + cemi::HEAD_SIZE + payload.len();
+    let message = header::lay(ROUTING_INDICATION, front(room, size)?);
     cemi::lay(INDICATION, false, meaning, payload, message);
     Ok(size)
 }
