@@ -89,16 +89,26 @@ pub fn write(
     payload: &[u8],
     room: &mut [u8],
 ) -> Result<usize, u8> {
-    let kind = Code::from_octet(code).ok_or(RANGE)?;
-    let error_mark = flag(error_mark)?;
-    // "14 (also .. an error mark outside a confirmation)"
-    if error_mark && kind != Code::Confirmation {
-        return Err(RANGE);
-    }
-    let meaning = given.meaning(payload)?;
+    let (error_mark, meaning) = test_given(code, error_mark, given, payload)?;
     let room = front(room, HEAD_SIZE + payload.len())?;
     lay(code, error_mark, &meaning, payload, room);
     Ok(room.len())
+}
+
+/// The error mark and the meaning given, or 14; "also a payload length the format lacks, a message
+/// code not read there, or an error mark outside a confirmation".
+pub(crate) fn test_given(
+    code: u8,
+    error_mark: u8,
+    given: &Given,
+    payload: &[u8],
+) -> Result<(bool, Meaning), u8> {
+    let code = Code::from_octet(code).ok_or(RANGE)?;
+    let error_mark = flag(error_mark)?;
+    if error_mark && code != Code::Confirmation {
+        return Err(RANGE);
+    }
+    Ok((error_mark, given.meaning(payload)?))
 }
 
 /// Lays the plain form over a room of exactly its size.
