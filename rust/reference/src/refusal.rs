@@ -1,4 +1,4 @@
-//! The table "Refusal numbers" of document 01.
+//! The table "Refusal numbers" of document 01, and the rows that document 02 adds.
 
 /// Fewer octets than the frame needs.
 pub const TOO_FEW: u8 = 1;
@@ -20,7 +20,7 @@ pub const INFORMATION_ESCAPE: u8 = 8;
 pub const STANDARD_LG: u8 = 9;
 /// KNXnet/IP header length not 06h or version not 10h.
 pub const HEADER: u8 = 10;
-/// Service not 0530h.
+/// Service other than the one wanted.
 pub const SERVICE: u8 = 11;
 /// Total length differs from the datagram's.
 pub const TOTAL_LENGTH: u8 = 12;
@@ -36,3 +36,9 @@ pub const SITE: u8 = 16;
 pub const LINE_TWICE: u8 = 17;
 /// Filter table missing or of wrong size.
 pub const TABLE: u8 = 18;
+/// First octet behind the KNXnet/IP header not 04h.
+pub const FIRST_OCTET: u8 = 19;
+/// Channel not open, whatever its number.
+pub const CHANNEL: u8 = 20;
+/// Counter neither the expected one nor one behind; in an acknowledgement, not the send counter.
+pub const COUNTER: u8 = 21;
