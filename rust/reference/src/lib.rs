@@ -1,8 +1,8 @@
 //! An independent reading of document 01, "Frame layouts", "Refusal numbers", "The coupler" and
-//! "Sites and the tracer".
+//! "Sites and the tracer", and of document 02, "R-1. Laptop on the line".
 //!
-//! It is written from that paper alone and shares nothing with the proved code: the proved
-//! library is compared with it, input by input. A refusal is its number in the paper's table.
+//! It is written from those papers alone and shares nothing with the proved code: the proved
+//! library is compared with it, input by input. A refusal is its number in the papers.
 #![forbid(unsafe_code)]
 
 pub mod cemi;
@@ -13,6 +13,7 @@ pub mod routing;
 pub mod site;
 pub mod tp1;
 pub mod tracer;
+pub mod tunnelling;
 
 #[derive(Clone, Copy, Debug, PartialEq, Eq)]
 pub enum Format {
