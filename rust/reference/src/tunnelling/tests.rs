@@ -1,8 +1,10 @@
-//! Each sentence of "R-1. Laptop on the line".
+//! Each sentence of "R-1. Laptop on the line", and the sequences of document 001.
 
 use super::*;
 use crate::cemi::Code;
 use crate::{Format, Meaning};
+
+mod sequences;
 
 /// Stands where nothing may be written.
 const UNTOUCHED: u8 = 0x55;
