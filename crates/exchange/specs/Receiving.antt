@@ -51,10 +51,14 @@ channelAfter (Delivered x) c = counted c (raised (c .receive)) (c .send)
 channelAfter Again c = c
 channelAfter (Refused r) c = c
 
--- "acknowledged": with the request's own channel and counter, status 00h; "refused .., without acknowledgement"
+-- the acknowledgement of a request: its own channel and counter, status 00h
+abbrev pub acknowledging : List ℕ → List ℕ
+acknowledging s = acknowledgementOctets (record { channel = channelIn s; counter = counterIn s; status = 0x00 })
+
+-- "acknowledged, delivered"; "acknowledged again"; "refused (21), without acknowledgement"
 abbrev pub sentBack : Received → List ℕ → List ℕ
-sentBack (Delivered x) s = acknowledgementOctets (record { channel = channelIn s; counter = counterIn s; status = 0x00 })
-sentBack Again s = acknowledgementOctets (record { channel = channelIn s; counter = counterIn s; status = 0x00 })
+sentBack (Delivered x) s = acknowledging s
+sentBack Again s = acknowledging s
 sentBack (Refused r) s = []
 
 -- the call where the channel is given: answer and room

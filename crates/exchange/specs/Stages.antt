@@ -5,7 +5,7 @@ use mathlib.Core.Bool.{Bool, _||_}
 use lib.ListN.{length}
 use lib.Dec.{ltb}
 use Rattle.frame.specs.Order.{_gives_, firstOf, answerBy}
-use Rattle.frame.specs.declared.Refusal.the-variants.{LeftOver, TooFew}
+use Rattle.frame.specs.declared.Refusal.the-variants.{LeftOver}
 use Rattle.cemi.specs.Reading.{cemiTests}
 use Rattle.cemi.specs.declared.Codes.the-variants.{All}
 use Rattle.channels.specs.declared.Channel.{Channel}
@@ -21,9 +21,9 @@ use Rattle.exchange.specs.declared.Received.the-variants.{Refused}
 unfoldable pub receivedBehind : Channel → List ℕ → Received
 receivedBehind c s = answerBy Refused (takenAs (isExpected c s) s) (firstOf (channelTests c (isExpected c s || isBehind c s) ++ cemiTests All (message s)))
 
--- and behind the channel's; octets that are too few for a connection header have no message
+-- and behind the channel's
 unfoldable pub receivedMessage : Bool → List ℕ → Received
-receivedMessage expected s = answerBy Refused (takenAs expected s) (firstOf (ltb (length s) 10 gives TooFew ∷ cemiTests All (message s)))
+receivedMessage expected s = answerBy Refused (takenAs expected s) (firstOf (cemiTests All (message s)))
 
 -- an acknowledgement behind the connection header's tests
 unfoldable pub confirmedBehind : Channel → List ℕ → Confirmed

@@ -1,7 +1,7 @@
 // What a request is judged to be on its channel, what is sent back, and what it leaves there.
 ghost use mathlib.Core.Path.{_≡_};
 ghost use Rattle.octets.specs.Room.{laid};
-ghost use Rattle.exchange.specs.Receiving.{isExpected, isBehind, received, channelAfter, sentBack};
+ghost use Rattle.exchange.specs.Receiving.{isExpected, isBehind, received, channelAfter, acknowledging, sentBack};
 ghost use Rattle.exchange.specs.Stages.{receivedBehind, receivedMessage};
 use crate::Received;
 use cemi::CemiAnswer;
@@ -93,17 +93,25 @@ pub(crate) fn channel_after(answer: Received, channel: Channel) -> Channel
     }
 }
 
-// The acknowledgement of the request's own channel and counter; none with a refusal.
-pub(crate) fn send_back(answer: Received, octets: &[u8], room: &mut [u8])
-    ensures { λ _. ⌜ now (room .exit) ≡ laid (sentBack answer (now (octets .entry))) 0 (now (room .entry)) ⌝ }
+// The acknowledgement of a request's own channel and counter.
+fn acknowledge(octets: &[u8], room: &mut [u8])
+    ensures { λ _. ⌜ now (room .exit) ≡ laid (acknowledging (now (octets .entry))) 0 (now (room .entry)) ⌝ }
 {
-    if let Received::Refused(_) = answer {
-        return;
-    }
     let acknowledgement = Acknowledgement {
         channel: octets::octet(octets, 7),
         counter: octets::octet(octets, 8),
         status: 0,
     };
     tunnelling::write_acknowledgement(acknowledgement, room);
+}
+
+// What goes back to the sender; nothing with a refusal.
+pub(crate) fn send_back(answer: Received, octets: &[u8], room: &mut [u8])
+    ensures { λ _. ⌜ now (room .exit) ≡ laid (sentBack answer (now (octets .entry))) 0 (now (room .entry)) ⌝ }
+{
+    match answer {
+        Received::Delivered(_) => acknowledge(octets, room),
+        Received::Again => acknowledge(octets, room),
+        Received::Refused(_) => {}
+    }
 }

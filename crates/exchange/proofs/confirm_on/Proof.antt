@@ -1,42 +1,19 @@
+-- The tests of header and connection header refuse, or the channel's decide.
+use mathlib.Core.Path.{sym, _∙_}
 use borrow.Author.Needs.{needs}
+use Rattle.exchange.proofs.ConfirmingLaws.{connection-refuses, connection-passes}
 use Rattle.exchange.proofs.confirm_on.Statement.{statement}
 use Rattle.exchange.proofs.confirm_on.Tie as tie
-use Rattle.exchange.proofs.confirm_on.Reads as reads
-use Rattle.exchange.proofs.confirm_on.Lts as lts
-use Rattle.exchange.proofs.confirming.confirmed_behind.Reads as confirmed-behind-reads
-use Rattle.tunnelling.proofs.read_connection.Reads as read-connection-reads
 
--- src/lib.rt:119:9
-read-connection-requires : tie.Need-read-connection-requires
-read-connection-requires c κs = search needs
-
--- src/lib.rt:121:25
-enum-known-connection : tie.Need-enum-known-connection
-enum-known-connection c = search needs
-
--- src/lib.rt:122:26
-enum-told : tie.Need-enum-told
-enum-told c = search needs
-
--- src/lib.rt:122:26
-confirmed-behind-requires : tie.Need-confirmed-behind-requires
-confirmed-behind-requires c κs = search needs
-
--- src/lib.rt:116:1
 returns : tie.Need-returns
-returns c = ?
+returns c =
+    let a = c .before .before .before .before .before .args in
+    sym (connection-refuses (a .channel) (a .octets .now) _ (sym (c .before .before .before .read-connection .ensures) ∙ c .before .connection .given .1))
 
--- src/lib.rt:116:1
 returns-2 : tie.Need-returns-2
-returns-2 c = ?
+returns-2 c =
+    let a = c .before .before .before .before .before .args in
+    c .confirmed-behind .ensures ∙ sym (connection-passes (a .channel) (a .octets .now) (sym (c .before .before .before .read-connection .ensures) ∙ c .before .enum-told .given .1))
 
 pub confirm-on-spec : {M : Type 1} → statement M
-confirm-on-spec =
-    tie.close
-    (tie.spec
-    read-connection-requires
-    enum-known-connection
-    enum-told
-    confirmed-behind-requires
-    returns
-    returns-2)
+confirm-on-spec = tie.close (tie.spec (λ c κs. search needs) (λ c. search needs) (λ c. search needs) (λ c κs. search needs) returns returns-2)

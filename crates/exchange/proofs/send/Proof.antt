@@ -1,26 +1,14 @@
+-- The core's outcome, on the channel that the table has under the number.
 use borrow.Author.Needs.{needs}
+use Rattle.exchange.proofs.SendingLaws.{sent-at}
 use Rattle.exchange.proofs.send.Statement.{statement}
 use Rattle.exchange.proofs.send.Tie as tie
-use Rattle.exchange.proofs.send.Reads as reads
-use Rattle.exchange.proofs.send.Lts as lts
-use Rattle.channels.proofs.channel_at.Reads as channel-at-reads
-use Rattle.exchange.proofs.send_on.Reads as send-on-reads
 
--- src/lib.rt:111:9
-channel-at-requires : tie.Need-channel-at-requires
-channel-at-requires c κs = search needs
-
--- src/lib.rt:112:5
-send-on-requires : tie.Need-send-on-requires
-send-on-requires c κs = search needs
-
--- src/lib.rt:107:1
-same-length : tie.Need-same-length
-same-length c = search needs
-
--- src/lib.rt:107:1
 returns : tie.Need-returns
-returns c = ?
+returns c =
+    let back = c .before .before .before .before in
+    let a = back .before .before .before .before .args in
+    sent-at (a .table .channels) (a .number) (a .message) (a .payload .now) (a .room .now) (back .channel-at .ensures) (c .before .before .send-on .ensures)
 
 pub send-spec : {M : Type 1} → statement M
-send-spec = tie.close (tie.spec channel-at-requires send-on-requires same-length returns)
+send-spec = tie.close (tie.spec (λ c κs. search needs) (λ c κs. search needs) (λ c. search needs) returns)

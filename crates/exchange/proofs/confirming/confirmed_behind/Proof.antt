@@ -1,40 +1,34 @@
+-- The channel's two tests, octets left over, and the status; the counter's test is rewritten before the channel's field is.
 use borrow.Author.Needs.{needs}
+use borrow.Author.Tests.{lt-ltb, le-ltb, eq-eqb, ne-eqb}
+use Rattle.exchange.specs.Stages.{confirmedBehind}
 use Rattle.exchange.proofs.confirming.confirmed_behind.Statement.{statement}
 use Rattle.exchange.proofs.confirming.confirmed_behind.Tie as tie
-use Rattle.exchange.proofs.confirming.confirmed_behind.Reads as reads
-use Rattle.exchange.proofs.confirming.confirmed_behind.Lts as lts
-use Rattle.exchange.proofs.confirming.is_sent.Reads as is-sent-reads
-use Rattle.octets.proofs.octet.Reads as octet-reads
 
--- src/confirming.rt:19:9
-is-sent-requires : tie.Need-is-sent-requires
-is-sent-requires c κs = search needs
-
--- src/confirming.rt:23:17
 returns : tie.Need-returns
-returns c = ?
+unfolding confirmedBehind
+returns c =
+    rw (← c .before .before .before .is-sent .ensures, c .before .if2 .taken, c .before .before .if1 .taken, lt-ltb _ _ (c .if3 .taken))
 
--- src/confirming.rt:25:16
-octet-requires : tie.Need-octet-requires
-octet-requires c κs = search needs
-
--- src/confirming.rt:16:1
 returns-2 : tie.Need-returns-2
-returns-2 c = ?
+unfolding confirmedBehind
+returns-2 c =
+    let back = c .before .before in
+    rw (← back .before .before .before .is-sent .ensures, back .before .if2 .taken, back .before .before .if1 .taken, le-ltb _ _ (back .if3 .left), ← c .before .octet .ensures, eq-eqb _ _ (c .if4 .taken))
 
--- src/confirming.rt:16:1
 returns-3 : tie.Need-returns-3
-returns-3 c = ?
+unfolding confirmedBehind
+returns-3 c =
+    let back = c .before .before in
+    rw (← back .before .before .before .is-sent .ensures, back .before .if2 .taken, back .before .before .if1 .taken, le-ltb _ _ (back .if3 .left), ← c .before .octet .ensures, ne-eqb _ _ (c .if4 .left))
 
--- src/confirming.rt:16:1
 returns-4 : tie.Need-returns-4
-returns-4 c = ?
+unfolding confirmedBehind
+returns-4 c = rw (← c .before .before .is-sent .ensures, c .if2 .left, c .before .if1 .taken)
 
--- src/confirming.rt:16:1
 returns-5 : tie.Need-returns-5
-returns-5 c = ?
+unfolding confirmedBehind
+returns-5 c = rw (c .if1 .left)
 
 pub confirmed-behind-spec : {M : Type 1} → statement M
-confirmed-behind-spec =
-    tie.close
-    (tie.spec is-sent-requires returns octet-requires returns-2 returns-3 returns-4 returns-5)
+confirmed-behind-spec = tie.close (tie.spec (λ c κs. search needs) returns (λ c κs. search needs) returns-2 returns-3 returns-4 returns-5)

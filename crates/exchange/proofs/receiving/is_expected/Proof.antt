@@ -1,17 +1,12 @@
+-- The datagram's counter, as `octet` hands it out.
 use borrow.Author.Needs.{needs}
+use Rattle.exchange.specs.Receiving.{isExpected}
 use Rattle.exchange.proofs.receiving.is_expected.Statement.{statement}
 use Rattle.exchange.proofs.receiving.is_expected.Tie as tie
-use Rattle.exchange.proofs.receiving.is_expected.Reads as reads
-use Rattle.exchange.proofs.receiving.is_expected.Lts as lts
-use Rattle.octets.proofs.octet.Reads as octet-reads
 
--- src/receiving.rt:20:5
-octet-requires : tie.Need-octet-requires
-octet-requires c κs = search needs
-
--- src/receiving.rt:17:1
 returns : tie.Need-returns
-returns c = ?
+unfolding isExpected
+returns c = rw (← c .before .octet .ensures)
 
 pub is-expected-spec : {M : Type 1} → statement M
-is-expected-spec = tie.close (tie.spec octet-requires returns)
+is-expected-spec = tie.close (tie.spec (λ c κs. search needs) returns)

@@ -1,43 +1,25 @@
+-- The channel's two tests, then the message's.
+use mathlib.Core.Path.{_≡_, sym, _∙_}
 use borrow.Author.Needs.{needs}
+use Rattle.exchange.proofs.ReceivingLaws.{behind-passed}
+use Rattle.exchange.specs.Stages.{receivedBehind}
 use Rattle.exchange.proofs.receiving.received_behind.Statement.{statement}
 use Rattle.exchange.proofs.receiving.received_behind.Tie as tie
-use Rattle.exchange.proofs.receiving.received_behind.Reads as reads
-use Rattle.exchange.proofs.receiving.received_behind.Lts as lts
-use Rattle.exchange.proofs.receiving.is_behind.Reads as is-behind-reads
-use Rattle.exchange.proofs.receiving.is_expected.Reads as is-expected-reads
-use Rattle.exchange.proofs.receiving.received_message.Reads as received-message-reads
 
--- src/receiving.rt:58:13
-is-expected-requires : tie.Need-is-expected-requires
-is-expected-requires c κs = search needs
-
--- src/receiving.rt:59:32
-is-behind-requires : tie.Need-is-behind-requires
-is-behind-requires c κs = search needs
-
--- src/receiving.rt:61:13
-received-message-requires : tie.Need-received-message-requires
-received-message-requires c κs = search needs
-
--- src/receiving.rt:54:1
 returns : tie.Need-returns
-returns c = ?
+returns c =
+    let back = c .before .before .before .before in
+    let a = back .before .before .args in
+    let known = rw (c .before .before .before .is-expected .ensures, c .before .before .is-behind .ensures) at (c .before .if2 .taken) in
+    rw (c .before .before .before .is-expected .ensures) at (c .received-message .ensures) ∙ sym (behind-passed (a .octets .now) (a .channel) (back .if1 .taken) known)
 
--- src/receiving.rt:54:1
 returns-2 : tie.Need-returns-2
-returns-2 c = ?
+unfolding receivedBehind
+returns-2 c = rw (← c .before .before .is-expected .ensures, ← c .before .is-behind .ensures, c .before .before .before .if1 .taken, c .if2 .left)
 
--- src/receiving.rt:54:1
 returns-3 : tie.Need-returns-3
-returns-3 c = ?
+unfolding receivedBehind
+returns-3 c = rw (c .if1 .left)
 
 pub received-behind-spec : {M : Type 1} → statement M
-received-behind-spec =
-    tie.close
-    (tie.spec
-    is-expected-requires
-    is-behind-requires
-    received-message-requires
-    returns
-    returns-2
-    returns-3)
+received-behind-spec = tie.close (tie.spec (λ c κs. search needs) (λ c κs. search needs) (λ c κs. search needs) returns returns-2 returns-3)

@@ -1,72 +1,44 @@
+-- Octets that are too few have no message; otherwise cEMI's answer decides.
+use mathlib.Core.Bool.{true, false}
+use mathlib.Core.List.{[]}
+use mathlib.Core.Path.{_≡_, sym, _∙_}
+use native.Mathlib.Nat.{le-of-lt}
+use lib.ListN.{drop, drop-of-length-le}
 use borrow.Author.Needs.{needs}
+use Rattle.octets.proofs.Split.{rest-is}
+use Rattle.exchange.proofs.ReceivingLaws.{message-refused, message-taken, taken-delivered}
+use Rattle.exchange.specs.Stages.{receivedMessage}
 use Rattle.exchange.proofs.receiving.received_message.Statement.{statement}
 use Rattle.exchange.proofs.receiving.received_message.Tie as tie
-use Rattle.exchange.proofs.receiving.received_message.Reads as reads
-use Rattle.exchange.proofs.receiving.received_message.Lts as lts
-use Rattle.cemi.proofs.read.Reads as read-reads
-use Rattle.octets.proofs.octet.Reads as octet-reads
 
--- src/receiving.rt:34:9
 returns : tie.Need-returns
-returns c = ?
+unfolding receivedMessage
+returns c =
+    let s = c .before .before .args .octets .now in
+    let e : drop 10 s ≡ [] = drop-of-length-le s (le-of-lt (c .if1 .taken)) in
+    rw e
 
--- src/receiving.rt:36:39
-sub-read : tie.Need-sub-read
-sub-read c = search needs
-
--- src/receiving.rt:36:39
-part-read-start : tie.Need-part-read-start
-part-read-start c = search needs
-
--- src/receiving.rt:36:39
-part-read-end : tie.Need-part-read-end
-part-read-end c = search needs
-
--- src/receiving.rt:36:9
-read-requires : tie.Need-read-requires
-read-requires c κs = search needs
-
--- src/receiving.rt:38:29
-enum-known-read : tie.Need-enum-known-read
-enum-known-read c = search needs
-
--- src/receiving.rt:39:27
-enum-known-read-2 : tie.Need-enum-known-read-2
-enum-known-read-2 c = search needs
-
--- src/receiving.rt:42:30
-octet-requires : tie.Need-octet-requires
-octet-requires c κs = search needs
-
--- src/receiving.rt:43:30
-octet-requires-2 : tie.Need-octet-requires-2
-octet-requires-2 c κs = search needs
-
--- src/receiving.rt:30:1
 returns-2 : tie.Need-returns-2
-returns-2 c = ?
+returns-2 c =
+    let a = c .before .before .before .before .before .before .before .args in
+    let e = rw (rest-is 10 (a .octets .now)) at (c .before .before .before .read .ensures) in
+    sym (message-refused (a .octets .now) (a .expected) _ (sym e ∙ c .before .read2 .given .1))
 
--- src/receiving.rt:30:1
 returns-3 : tie.Need-returns-3
-returns-3 c = ?
+returns-3 c =
+    let back = c .before .before .before in
+    let s = back .before .before .before .before .before .before .before .args .octets .now in
+    let e = rw (rest-is 10 s) at (back .before .before .before .read .ensures) in
+    let k = sym e ∙ back .before .read3 .given .1 in
+    rw (c .before .before .if2 .taken, c .before .octet .ensures, c .octet2 .ensures) (sym (message-taken s true _ k ∙ taken-delivered s _ k))
 
--- src/receiving.rt:30:1
 returns-4 : tie.Need-returns-4
-returns-4 c = ?
+returns-4 c =
+    let back = c .before in
+    let s = back .before .before .before .before .before .before .before .args .octets .now in
+    let e = rw (rest-is 10 s) at (back .before .before .before .read .ensures) in
+    rw (c .if2 .left) (sym (message-taken s false _ (sym e ∙ back .before .read3 .given .1)))
 
 pub received-message-spec : {M : Type 1} → statement M
-received-message-spec =
-    tie.close
-    (tie.spec
-    returns
-    sub-read
-    part-read-start
-    part-read-end
-    read-requires
-    enum-known-read
-    enum-known-read-2
-    octet-requires
-    octet-requires-2
-    returns-2
-    returns-3
-    returns-4)
+received-message-spec = tie.close (tie.spec returns (λ c. search needs) (λ c. search needs) (λ c. search needs) (λ c κs. search needs)
+    (λ c. search needs) (λ c. search needs) (λ c κs. search needs) (λ c κs. search needs) returns-2 returns-3 returns-4)

@@ -1,47 +1,21 @@
+-- The acknowledgement in two arms; nothing laid over the room is the room.
+use mathlib.Core.List.{[]}
+use mathlib.Core.Path.{sym}
+use native.Mathlib.Omega.{arith}
 use borrow.Author.Needs.{needs}
+use Rattle.octets.proofs.Room.{laid-front}
 use Rattle.exchange.proofs.receiving.send_back.Statement.{statement}
 use Rattle.exchange.proofs.receiving.send_back.Tie as tie
-use Rattle.exchange.proofs.receiving.send_back.Reads as reads
-use Rattle.exchange.proofs.receiving.send_back.Lts as lts
-use Rattle.octets.proofs.octet.Reads as octet-reads
-use Rattle.tunnelling.proofs.write_acknowledgement.Reads as write-acknowledgement-reads
 
--- src/receiving.rt:101:9
-enum-told : tie.Need-enum-told
-enum-told c = search needs
-
--- src/receiving.rt:101:9
 returns : tie.Need-returns
-returns c = ?
+returns c = rw (c .before .before .before .before .enum-told .given .1) (c .before .before .acknowledge .ensures)
 
--- src/receiving.rt:104:18
-octet-requires : tie.Need-octet-requires
-octet-requires c κs = search needs
-
--- src/receiving.rt:105:18
-octet-requires-2 : tie.Need-octet-requires-2
-octet-requires-2 c κs = search needs
-
--- src/receiving.rt:108:5
-write-acknowledgement-requires : tie.Need-write-acknowledgement-requires
-write-acknowledgement-requires c κs = search needs
-
--- src/receiving.rt:97:1
-same-length : tie.Need-same-length
-same-length c = search needs
-
--- src/receiving.rt:97:1
 returns-2 : tie.Need-returns-2
-returns-2 c = ?
+returns-2 c = rw (c .before .before .before .before .enum-told2 .given .1) (c .before .before .acknowledge2 .ensures)
+
+returns-3 : tie.Need-returns-3
+returns-3 c = rw (c .enum-told3 .given .1) (sym (laid-front [] (c .before .before .before .before .args .room .now) (omega arith)))
 
 pub send-back-spec : {M : Type 1} → statement M
-send-back-spec =
-    tie.close
-    (tie.spec
-    enum-told
-    returns
-    octet-requires
-    octet-requires-2
-    write-acknowledgement-requires
-    same-length
-    returns-2)
+send-back-spec = tie.close (tie.spec (λ c. search needs) (λ c κs. search needs) (λ c. search needs) (λ c κs. search needs) (λ c. search needs)
+    (λ c. search needs) returns (λ c. search needs) returns-2 returns-3)
