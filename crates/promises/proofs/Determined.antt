@@ -2,6 +2,9 @@
 use mathlib.Core.Path.{refl, sym, _∙_}
 use Rattle.octets.proofs.Part.{part-one}
 use Rattle.frame.proofs.Writing.{wrote-one}
+use Rattle.channels.proofs.CallLaws.{called-one}
+use Rattle.exchange.proofs.ReceivingLaws.{received-on-one, took-one}
+use Rattle.exchange.proofs.SendingLaws.{sent-on-one, sent-one}
 use Rattle.coupler.proofs.StepLaws.{handed-one, did-one}
 use Rattle.site.proofs.LettingLaws.{both-ways-one}
 use Rattle.site.proofs.Surveying.{survey-one}
@@ -66,6 +69,44 @@ use Rattle.routing.proofs.information.Kinds as routing-information-kinds
 use Rattle.routing.proofs.information.Reads as routing-information-reads
 use Rattle.routing.proofs.write.Kinds as routing-write-kinds
 use Rattle.routing.proofs.write.Reads as routing-write-reads
+use Rattle.channels.proofs.all_closed.Kinds as channels-all-closed-kinds
+use Rattle.channels.proofs.all_closed.Reads as channels-all-closed-reads
+use Rattle.channels.proofs.channel_at.Kinds as channels-channel-at-kinds
+use Rattle.channels.proofs.channel_at.Reads as channels-channel-at-reads
+use Rattle.channels.proofs.put.Kinds as channels-put-kinds
+use Rattle.channels.proofs.put.Reads as channels-put-reads
+use Rattle.channels.proofs.opened.Kinds as channels-opened-kinds
+use Rattle.channels.proofs.opened.Reads as channels-opened-reads
+use Rattle.channels.proofs.counted.Kinds as channels-counted-kinds
+use Rattle.channels.proofs.counted.Reads as channels-counted-reads
+use Rattle.channels.proofs.raised.Kinds as channels-raised-kinds
+use Rattle.channels.proofs.raised.Reads as channels-raised-reads
+use Rattle.tunnelling.proofs.read_connection.Kinds as tunnelling-read-connection-kinds
+use Rattle.tunnelling.proofs.read_connection.Reads as tunnelling-read-connection-reads
+use Rattle.tunnelling.proofs.read_request.Kinds as tunnelling-read-request-kinds
+use Rattle.tunnelling.proofs.read_request.Reads as tunnelling-read-request-reads
+use Rattle.tunnelling.proofs.message.Kinds as tunnelling-message-kinds
+use Rattle.tunnelling.proofs.message.Reads as tunnelling-message-reads
+use Rattle.tunnelling.proofs.write_request.Kinds as tunnelling-write-request-kinds
+use Rattle.tunnelling.proofs.write_request.Reads as tunnelling-write-request-reads
+use Rattle.tunnelling.proofs.read_acknowledgement.Kinds as tunnelling-read-acknowledgement-kinds
+use Rattle.tunnelling.proofs.read_acknowledgement.Reads as tunnelling-read-acknowledgement-reads
+use Rattle.tunnelling.proofs.write_acknowledgement.Kinds as tunnelling-write-acknowledgement-kinds
+use Rattle.tunnelling.proofs.write_acknowledgement.Reads as tunnelling-write-acknowledgement-reads
+use Rattle.exchange.proofs.receive_on.Kinds as exchange-receive-on-kinds
+use Rattle.exchange.proofs.receive_on.Reads as exchange-receive-on-reads
+use Rattle.exchange.proofs.receive.Kinds as exchange-receive-kinds
+use Rattle.exchange.proofs.receive.Reads as exchange-receive-reads
+use Rattle.exchange.proofs.message.Kinds as exchange-message-kinds
+use Rattle.exchange.proofs.message.Reads as exchange-message-reads
+use Rattle.exchange.proofs.send_on.Kinds as exchange-send-on-kinds
+use Rattle.exchange.proofs.send_on.Reads as exchange-send-on-reads
+use Rattle.exchange.proofs.send.Kinds as exchange-send-kinds
+use Rattle.exchange.proofs.send.Reads as exchange-send-reads
+use Rattle.exchange.proofs.confirm_on.Kinds as exchange-confirm-on-kinds
+use Rattle.exchange.proofs.confirm_on.Reads as exchange-confirm-on-reads
+use Rattle.exchange.proofs.confirm.Kinds as exchange-confirm-kinds
+use Rattle.exchange.proofs.confirm.Reads as exchange-confirm-reads
 use Rattle.passing.proofs.settings.are_codes.Kinds as passing-are-codes-kinds
 use Rattle.passing.proofs.settings.are_codes.Reads as passing-are-codes-reads
 use Rattle.passing.proofs.settings.asks_table.Kinds as passing-asks-table-kinds
@@ -224,6 +265,69 @@ routing-information-stated = record { determines = λ κs args r₁ r₂ w₁ w�
 
 pub routing-write-stated : Stated routing-write-kinds.ps routing-write-kinds.r routing-write-reads.Pre routing-write-reads.Post (λ κs a. routing-write-reads.ensures κs a tt)
 routing-write-stated = record { determines = λ κs args r₁ r₂ w₁ w₂ x y. let e = wrote-one x y in (e .0, λ i. (tt, (tt, (e .1 i, tt)))); free = λ κs args. tt; whole = λ κs args r e w. refl }
+
+-- channels
+
+pub channels-all-closed-stated : Stated channels-all-closed-kinds.ps channels-all-closed-kinds.r channels-all-closed-reads.Pre channels-all-closed-reads.Post (λ κs a. channels-all-closed-reads.ensures κs a tt)
+channels-all-closed-stated = record { determines = λ κs args r₁ r₂ w₁ w₂ x y. ((λ i. record { channels = (x ∙ sym y) i }), refl); free = λ κs args. tt; whole = λ κs args r e w. refl }
+
+pub channels-channel-at-stated : Stated channels-channel-at-kinds.ps channels-channel-at-kinds.r channels-channel-at-reads.Pre channels-channel-at-reads.Post (λ κs a. channels-channel-at-reads.ensures κs a tt)
+channels-channel-at-stated = record { determines = λ κs args r₁ r₂ w₁ w₂ x y. (x ∙ sym y, refl); free = λ κs args. tt; whole = λ κs args r e w. refl }
+
+pub channels-put-stated : Stated channels-put-kinds.ps channels-put-kinds.r channels-put-reads.Pre channels-put-reads.Post (λ κs a. channels-put-reads.ensures κs a tt)
+channels-put-stated = record { determines = λ κs args r₁ r₂ w₁ w₂ x y. (x ∙ sym y, refl); free = λ κs args. tt; whole = λ κs args r e w. refl }
+
+pub channels-opened-stated : Stated channels-opened-kinds.ps channels-opened-kinds.r channels-opened-reads.Pre channels-opened-reads.Post (λ κs a. channels-opened-reads.ensures κs a tt)
+channels-opened-stated = record { determines = λ κs args r₁ r₂ w₁ w₂ x y. ((λ i. record { channels = (x ∙ sym y) i }), refl); free = λ κs args. tt; whole = λ κs args r e w. refl }
+
+pub channels-counted-stated : Stated channels-counted-kinds.ps channels-counted-kinds.r channels-counted-reads.Pre channels-counted-reads.Post (λ κs a. channels-counted-reads.ensures κs a tt)
+channels-counted-stated = record { determines = λ κs args r₁ r₂ w₁ w₂ x y. (x ∙ sym y, refl); free = λ κs args. tt; whole = λ κs args r e w. refl }
+
+pub channels-raised-stated : Stated channels-raised-kinds.ps channels-raised-kinds.r channels-raised-reads.Pre channels-raised-reads.Post (λ κs a. channels-raised-reads.ensures κs a tt)
+channels-raised-stated = record { determines = λ κs args r₁ r₂ w₁ w₂ x y. (x ∙ sym y, refl); free = λ κs args. tt; whole = λ κs args r e w. refl }
+
+-- tunnelling
+
+pub tunnelling-read-connection-stated : Stated tunnelling-read-connection-kinds.ps tunnelling-read-connection-kinds.r tunnelling-read-connection-reads.Pre tunnelling-read-connection-reads.Post (λ κs a. tunnelling-read-connection-reads.ensures κs a tt)
+tunnelling-read-connection-stated = record { determines = λ κs args r₁ r₂ w₁ w₂ x y. (x ∙ sym y, refl); free = λ κs args. tt; whole = λ κs args r e w. refl }
+
+pub tunnelling-read-request-stated : Stated tunnelling-read-request-kinds.ps tunnelling-read-request-kinds.r tunnelling-read-request-reads.Pre tunnelling-read-request-reads.Post (λ κs a. tunnelling-read-request-reads.ensures κs a tt)
+tunnelling-read-request-stated = record { determines = λ κs args r₁ r₂ w₁ w₂ x y. (x ∙ sym y, refl); free = λ κs args. tt; whole = λ κs args r e w. refl }
+
+pub tunnelling-message-stated : StatedBy tunnelling-message-kinds.ps tunnelling-message-kinds.r (λ κs. SamePart) tunnelling-message-reads.Pre tunnelling-message-reads.Post (λ κs a. tunnelling-message-reads.ensures κs a tt)
+tunnelling-message-stated = record { determines = λ κs args r₁ r₂ w₁ w₂ x y. (part-one x y, refl); free = λ κs args. tt; whole = λ κs args r e w. refl }
+
+pub tunnelling-write-request-stated : Stated tunnelling-write-request-kinds.ps tunnelling-write-request-kinds.r tunnelling-write-request-reads.Pre tunnelling-write-request-reads.Post (λ κs a. tunnelling-write-request-reads.ensures κs a tt)
+tunnelling-write-request-stated = record { determines = λ κs args r₁ r₂ w₁ w₂ x y. let e = wrote-one x y in (e .0, λ i. (tt, (tt, (tt, (tt, (e .1 i, tt)))))); free = λ κs args. tt; whole = λ κs args r e w. refl }
+
+pub tunnelling-read-acknowledgement-stated : Stated tunnelling-read-acknowledgement-kinds.ps tunnelling-read-acknowledgement-kinds.r tunnelling-read-acknowledgement-reads.Pre tunnelling-read-acknowledgement-reads.Post (λ κs a. tunnelling-read-acknowledgement-reads.ensures κs a tt)
+tunnelling-read-acknowledgement-stated = record { determines = λ κs args r₁ r₂ w₁ w₂ x y. (x ∙ sym y, refl); free = λ κs args. tt; whole = λ κs args r e w. refl }
+
+pub tunnelling-write-acknowledgement-stated : Stated tunnelling-write-acknowledgement-kinds.ps tunnelling-write-acknowledgement-kinds.r tunnelling-write-acknowledgement-reads.Pre tunnelling-write-acknowledgement-reads.Post (λ κs a. tunnelling-write-acknowledgement-reads.ensures κs a tt)
+tunnelling-write-acknowledgement-stated = record { determines = λ κs args r₁ r₂ w₁ w₂ x y. let e = wrote-one x y in (e .0, λ i. (tt, (e .1 i, tt))); free = λ κs args. tt; whole = λ κs args r e w. refl }
+
+-- exchange
+
+pub exchange-receive-on-stated : Stated exchange-receive-on-kinds.ps exchange-receive-on-kinds.r exchange-receive-on-reads.Pre exchange-receive-on-reads.Post (λ κs a. exchange-receive-on-reads.ensures κs a tt)
+exchange-receive-on-stated = record { determines = λ κs args r₁ r₂ w₁ w₂ x y. let e = received-on-one x y in (e .0, λ i. (tt, (tt, (e .1 i, tt)))); free = λ κs args. tt; whole = λ κs args r e w. refl }
+
+pub exchange-receive-stated : Stated exchange-receive-kinds.ps exchange-receive-kinds.r exchange-receive-reads.Pre exchange-receive-reads.Post (λ κs a. exchange-receive-reads.ensures κs a tt)
+exchange-receive-stated = record { determines = λ κs args r₁ r₂ w₁ w₂ x y. let e = took-one x y in ((λ i. record { answer = e .0 i; table = record { channels = e .1 .0 i } }), λ i. (tt, (tt, (e .1 .1 i, tt)))); free = λ κs args. tt; whole = λ κs args r e w. refl }
+
+pub exchange-message-stated : StatedBy exchange-message-kinds.ps exchange-message-kinds.r (λ κs. SamePart) exchange-message-reads.Pre exchange-message-reads.Post (λ κs a. exchange-message-reads.ensures κs a tt)
+exchange-message-stated = record { determines = λ κs args r₁ r₂ w₁ w₂ x y. (part-one x y, refl); free = λ κs args. tt; whole = λ κs args r e w. refl }
+
+pub exchange-send-on-stated : Stated exchange-send-on-kinds.ps exchange-send-on-kinds.r exchange-send-on-reads.Pre exchange-send-on-reads.Post (λ κs a. exchange-send-on-reads.ensures κs a tt)
+exchange-send-on-stated = record { determines = λ κs args r₁ r₂ w₁ w₂ x y. let e = sent-on-one x y in (e .0, λ i. (tt, (tt, (tt, (tt, (e .1 i, tt)))))); free = λ κs args. tt; whole = λ κs args r e w. refl }
+
+pub exchange-send-stated : Stated exchange-send-kinds.ps exchange-send-kinds.r exchange-send-reads.Pre exchange-send-reads.Post (λ κs a. exchange-send-reads.ensures κs a tt)
+exchange-send-stated = record { determines = λ κs args r₁ r₂ w₁ w₂ x y. let e = sent-one x y in (e .0, λ i. (tt, (tt, (tt, (tt, (e .1 i, tt)))))); free = λ κs args. tt; whole = λ κs args r e w. refl }
+
+pub exchange-confirm-on-stated : Stated exchange-confirm-on-kinds.ps exchange-confirm-on-kinds.r exchange-confirm-on-reads.Pre exchange-confirm-on-reads.Post (λ κs a. exchange-confirm-on-reads.ensures κs a tt)
+exchange-confirm-on-stated = record { determines = λ κs args r₁ r₂ w₁ w₂ x y. (x ∙ sym y, refl); free = λ κs args. tt; whole = λ κs args r e w. refl }
+
+pub exchange-confirm-stated : Stated exchange-confirm-kinds.ps exchange-confirm-kinds.r exchange-confirm-reads.Pre exchange-confirm-reads.Post (λ κs a. exchange-confirm-reads.ensures κs a tt)
+exchange-confirm-stated = record { determines = λ κs args r₁ r₂ w₁ w₂ x y. let e = called-one x y in ((λ i. record { answer = e .0 i; table = record { channels = e .1 i } }), refl); free = λ κs args. tt; whole = λ κs args r e w. refl }
 
 -- passing
 
