@@ -27,6 +27,8 @@ use Rattle.site.specs.Stores.{Stores}
 use Rattle.site.specs.WellFormed.{siteTests}
 use Rattle.tp1.specs.Answers.{tp1Numbered}
 use Rattle.tp1.specs.Reading.{meaningIn, tp1Tests, readTp1, payloadIn as tp1Payload}
+use Rattle.tunnelling.specs.Answers.{requestValues, requestNumbered, acknowledgementValues, acknowledgementNumbered}
+use Rattle.tunnelling.specs.Reading.{connectedTests, readConnection, requestTests, requestIn, readRequest, requestMessage, acknowledgementTests, acknowledgementIn, readAcknowledgement}
 use Rattle.tracer.proofs.Answers.{why-answers, why-reason}
 use Rattle.tracer.specs.Answers.{explanationNumbered}
 use Rattle.tracer.specs.Listing.{linesListed, forwardings}
@@ -37,6 +39,8 @@ use Rattle.tracer.specs.declared.Traced.{Traced}
 use Rattle.frame.specs.declared.Written.the-variants.{Put, Refused as Unwritten}
 use Rattle.tp1.specs.declared.Tp1Answer.the-variants.{Frame as Tp1-frame, Refused as Tp1-refused}
 use Rattle.cemi.specs.declared.CemiAnswer.the-variants.{Frame as Cemi-frame, Refused as Cemi-refused}
+use Rattle.tunnelling.specs.declared.RequestAnswer.the-variants.{Frame as Request-frame, Refused as Request-refused}
+use Rattle.tunnelling.specs.declared.AcknowledgementAnswer.the-variants.{Frame as Acknowledgement-frame, Refused as Acknowledgement-refused}
 use Rattle.tracer.specs.declared.Explanation.the-variants.{Refused as Unexplained}
 use Rattle.promises.proofs.Ends.{Ends, EndsNumbered, ends-by}
 
@@ -96,6 +100,24 @@ routing-ends s =
 pub header-ends : (service : ℕ) (s : List ℕ) → EndsNumbered [] (headerTests service s) (verdictNumbered (readHeader service s))
 unfolding readHeader
 header-ends service s = ends-by refused (accepted []) verdictNumbered refl (λ r. refl) (headerTests service s)
+
+-- header and connection header, of whichever service is wanted: document 02, R-1, "19 first octet not 04h ..; they come after 12 (fewer
+-- than 10 octets in all is 1 just before 19)"
+pub connection-ends : (service : ℕ) (s : List ℕ) → EndsNumbered [] (connectedTests service s) (verdictNumbered (readConnection service s))
+unfolding readConnection
+connection-ends service s = ends-by refused (accepted []) verdictNumbered refl (λ r. refl) (connectedTests service s)
+
+-- a tunnelling request: its channel, its counter and what its message means; the message is handed out, with a refusal none
+pub request-ends : (s : List ℕ) → ReaderEnds (requestValues (requestIn s)) (requestTests s) (requestNumbered (readRequest s)) (requestMessage (readRequest s) s ∷ [])
+unfolding readRequest
+request-ends s =
+    reader-by Request-refused (Request-frame (requestIn s)) requestNumbered (λ a. requestMessage a s ∷ []) (requestValues (requestIn s)) refl (λ r. refl) (λ r. (refl, tt)) (requestTests s)
+
+-- an acknowledgement: "for an acknowledgement 5 comes last"; it has no parts
+pub acknowledgement-ends : (s : List ℕ) → ReaderEnds (acknowledgementValues (acknowledgementIn s)) (acknowledgementTests s) (acknowledgementNumbered (readAcknowledgement s)) []
+unfolding readAcknowledgement
+acknowledgement-ends s =
+    reader-by Acknowledgement-refused (Acknowledgement-frame (acknowledgementIn s)) acknowledgementNumbered (λ a. []) (acknowledgementValues (acknowledgementIn s)) refl (λ r. refl) (λ r. tt) (acknowledgementTests s)
 
 -- the writers: whatever the numbers, the payload and the room; a format gives its test of the numbers and its octets
 
