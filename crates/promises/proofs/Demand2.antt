@@ -46,7 +46,7 @@ use Rattle.cemi.specs.declared.CemiAnswer.the-variants.{Frame as Cemi-frame, Re
 
 -- an answer by its number and values, and back
 
-abbrev numberOf : Numbered → ℕ
+abbrev pub numberOf : Numbered → ℕ
 numberOf n = n .number
 
 tp1-zero : (a : Tp1Answer) → tp1Numbered a .number ≡ 0 → (m : Meaning) × (a ≡ Tp1-frame m)
@@ -118,6 +118,9 @@ cemi-accepts codes u i x p w v =
       payload = ap (λ (r : CemiAnswer). payloadIn r s) e ∙ laid-payload u i x p;
     }
 
+pub message-accepts : (codes : Codes) {s : List ℕ} {x : Message} {i p : List ℕ} → IsMessage codes s x i p → CemiAccepts codes s x i p
+message-accepts codes {s} {x} {i} {p} f = rw (f .layout) (cemi-accepts codes (f .unread) i x p (f .informed) (f .valid))
+
 pub cemi-accepted-exactly : (codes : Codes) (s : List ℕ) (x : Message) (information p : List ℕ) → Octets s → CemiAccepts codes s x information p ↔ IsMessage codes s x information p
 cemi-accepted-exactly codes s x i p o = (
   (λ a.
@@ -131,7 +134,7 @@ cemi-accepted-exactly codes s x i p o = (
         valid = subst (ValidMessage codes x) q (f .valid);
         layout = f .layout ∙ (λ k. cemiOctets (f .unread) (j k) x (q k));
       }),
-  (λ f. rw (f .layout) (cemi-accepts codes (f .unread) i x p (f .informed) (f .valid))),
+  message-accepts codes,
 )
 
 pub cemi-zero-exactly : (codes : Codes) (s : List ℕ) → Octets s
@@ -183,10 +186,7 @@ routing-accepted-exactly s x i p o = (
         });
         layout = d .0;
       }),
-  (λ f.
-      let m = f .message in
-      let a : CemiAccepts IndicationOnly (f .indication) x i p = rw (m .layout) (cemi-accepts IndicationOnly (m .unread) i x p (m .informed) (m .valid)) in
-      rw (f .layout) (routing-accepts (f .indication) x i p a)),
+  (λ f. rw (f .layout) (routing-accepts (f .indication) x i p (message-accepts IndicationOnly (f .message)))),
 )
 
 pub routing-zero-exactly : (s : List ℕ) → Octets s → cemiNumbered (readRouting s) .number ≡ 0 ↔ ((x : Message) × ((information : List ℕ) × ((p : List ℕ) × IsDatagram s x information p)))
@@ -224,7 +224,7 @@ takes-one {octets} {room} {a} {b} {after} {after′} x y = go (ltb (length room)
 
 -- where no number is outside its range, a writer takes the octets
 module _ {ranged : Bool} {octets room : List ℕ} {answer : Written} {after : List ℕ} (e : ranged ≡ true) (w : Wrote ranged octets room answer after) where
-  taken : Takes octets room answer after
+  pub taken : Takes octets room answer after
   taken = record {
     fits = λ h. (ap writtenNumbered (w .answered ∙ put-iff ranged octets room (length octets) .1 (e, (h, refl))), wrote-over e h w);
     small = λ h.
@@ -232,7 +232,7 @@ module _ {ranged : Bool} {octets room : List ℕ} {answer : Written} {after : Li
         (ap writtenNumbered a, w .left ∙ ap (λ (v : Written). roomAfter v octets room) a);
   }
 
-  taken-and-read : (Reads : List ℕ → Type 0) → Reads octets → TakesAndReads octets room answer after Reads
+  pub taken-and-read : (Reads : List ℕ → Type 0) → Reads octets → TakesAndReads octets room answer after Reads
   taken-and-read Reads r = record {
     takes = taken;
     reads = λ h. subst Reads (sym (ap (take (length octets)) (wrote-over e h w) ∙ take-at octets (drop (length octets) room) (length octets) refl)) r;
@@ -251,7 +251,7 @@ pub tp1-written-reads : (m : Meaning) (p room after : List ℕ) (answer : Writte
 tp1-written-reads m p room after answer v w = taken-and-read (v .ranges) w (λ o. Tp1Accepts o m p) (tp1-accepts m p v)
 
 -- the plain form reads as what it was made of, with no additional information
-plain-accepts : (codes : Codes) (x : Message) (p : List ℕ) → ValidMessage codes x p → CemiAccepts codes (plain x p) x [] p
+pub plain-accepts : (codes : Codes) (x : Message) (p : List ℕ) → ValidMessage codes x p → CemiAccepts codes (plain x p) x [] p
 plain-accepts codes x p v =
     let e : readCemi codes (plain x p) ≡ Cemi-frame x = plain-read codes x p v in
     record {
