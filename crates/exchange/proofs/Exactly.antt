@@ -2,29 +2,32 @@
 -- what is not refused is what the reader accepts on an open channel with a counter that it awaits.
 use Prim.Native.Nat.{ℕ, suc, _≤_, _<_}
 use mathlib.Core.Bool.{Bool, true, false, cond, not, _||_}
-use mathlib.Core.List.{List, _∷_, _++_}
+use mathlib.Core.List.{List, [], _∷_, _++_}
 use mathlib.Core.Logic.{_↔_}
 use mathlib.Core.Path.{_≡_, refl, sym, ap, _∙_}
-use lib.Dec.{eqb}
-use lib.ListN.{take, drop}
+use lib.Dec.{ltb, eqb}
+use lib.ListN.{length, take, drop}
 use native.Mathlib.Omega.{arith}
 use borrow.Author.Tests.{ltb-true, ltb-false, lt-ltb, le-ltb, eqb-true, eqb-false, eq-eqb, ne-eqb, not-false}
 use Rattle.octets.proofs.Truth.{by-cases, or-right}
-use Rattle.frame.proofs.Order.{givesNot, answer-iff, refusal-once}
-use Rattle.frame.specs.Order.{NoneOf, _gives_}
-use Rattle.frame.specs.declared.Refusal.the-variants.{SmallRoom, OtherConnection, NotOpen, OtherCounter}
+use Rattle.frame.proofs.Order.{givesNot, none-split, answer-iff, refusal-once}
+use Rattle.frame.specs.Order.{Test, NoneOf, _gives_}
+use Rattle.frame.specs.declared.Refusal.the-variants.{LeftOver, SmallRoom, OtherConnection, NotOpen, OtherCounter}
 use Rattle.frame.specs.declared.Refusal.{Refusal}
+use Rattle.cemi.specs.Reading.{cemiTests}
+use Rattle.cemi.specs.declared.Codes.the-variants.{All}
 use Rattle.channels.specs.Table.{raised}
 use Rattle.channels.specs.declared.Channel.{Channel}
 use Rattle.tunnelling.proofs.Refusals.{request-accepted-iff, acknowledgement-accepted-iff}
-use Rattle.tunnelling.specs.Reading.{isOtherConnection, counterIn, statusIn, requestIn, requestTests, readRequest, acknowledgementIn, acknowledgementTests, readAcknowledgement}
+use Rattle.tunnelling.specs.Layout.{requestService, acknowledgementService}
+use Rattle.tunnelling.specs.Reading.{isOtherConnection, counterIn, statusIn, message, connectedTests, requestIn, readRequest, acknowledgementIn, readAcknowledgement}
 use Rattle.tunnelling.specs.declared.Acknowledgement.{Acknowledgement}
 use Rattle.tunnelling.specs.declared.AcknowledgementAnswer.the-variants.{Frame as Acknowledged}
 use Rattle.tunnelling.specs.declared.Request.{Request}
 use Rattle.tunnelling.specs.declared.RequestAnswer.the-variants.{Frame}
 use Rattle.exchange.proofs.Apart.{delivered-refused, again-refused, delivered-again, delivered-one, refused-one, raised-refused, kept-refused, raised-kept, unconfirmed-one}
 use Rattle.exchange.specs.Confirming.{isSent, confirmTests, confirmedBy, confirmed}
-use Rattle.exchange.specs.Receiving.{isExpected, isBehind, receiveTests, takenAs, received}
+use Rattle.exchange.specs.Receiving.{isExpected, isBehind, channelTests, receiveTests, takenAs, received}
 use Rattle.exchange.specs.declared.Confirmed.the-variants.{Raised, Kept, Refused as Unconfirmed}
 use Rattle.exchange.specs.declared.Confirmed.{Confirmed}
 use Rattle.exchange.specs.declared.Received.the-variants.{Delivered, Again, Refused}
@@ -59,19 +62,18 @@ module _ (c : Channel) (s : List ℕ) where
 
   arrived : (room : ℕ) → NoneOf (receiveTests c s room) → Arrives room (requestIn s) × (known ≡ true)
   arrived room n =
-      let h = n .1 in
-      let k = h .1 .1 .1 .1 in
-      let o = k .1 .1 in
-      let none : NoneOf (requestTests s) = (h .0, (h .1 .0, (h .1 .1 .0, (h .1 .1 .1 .0, (k .0, (k .1 .0, o .1 .1)))))) in (
-        record { fits = ltb-false room 10 (n .0); read = request-accepted-iff s (requestIn s) .1 (none, refl); opened = not-false (c .opened) (o .0) },
-        not-false known (o .1 .0),
+      let a = none-split (connectedTests requestService s) (channelTests c known ++ cemiTests All (message s)) .0 (n .1) in
+      let b = none-split (channelTests c known) (cemiTests All (message s)) .0 (a .1) in
+      let none = none-split (connectedTests requestService s) (cemiTests All (message s)) .1 (a .0, b .1) in (
+        record { fits = ltb-false room 10 (n .0); read = request-accepted-iff s (requestIn s) .1 (none, refl); opened = not-false (c .opened) (b .0 .0) },
+        not-false known (b .0 .1 .0),
       )
 
   arrives : (room : ℕ) (x : Request) → Arrives room x → known ≡ true → NoneOf (receiveTests c s room)
   arrives room x a e =
-      let n = request-accepted-iff s x .0 (a .read) .0 in
-      let k = n .1 .1 .1 .1 in
-      (le-ltb room 10 (a .fits), (n .0, (n .1 .0, (n .1 .1 .0, (n .1 .1 .1 .0, (k .0, (k .1 .0, (ap not (a .opened), (ap not e, k .1 .1)))))))))
+      let n = none-split (connectedTests requestService s) (cemiTests All (message s)) .0 (request-accepted-iff s x .0 (a .read) .0) in
+      let rest = none-split (channelTests c known) (cemiTests All (message s)) .1 ((ap not (a .opened), (ap not e, tt)), n .1) in
+      (le-ltb room 10 (a .fits), none-split (connectedTests requestService s) (channelTests c known ++ cemiTests All (message s)) .1 (n .0, rest))
 
   same : {room : ℕ} {x : Request} → Arrives room x → requestIn s ≡ x
   same {room} {x} a = request-accepted-iff s x .0 (a .read) .1
@@ -148,19 +150,24 @@ module _ (c : Channel) (s : List ℕ) where
     pub opened : c .opened ≡ true
     pub counter : a .counter ≡ c .send
 
+  -- the one test behind the channel's
+  abbrev last : List Test
+  last = ltb 10 (length s) gives LeftOver ∷ []
+
   answering : NoneOf (confirmTests c s) → Answers (acknowledgementIn s)
   answering n =
-      let k = n .1 .1 .1 .1 in
-      let o = k .1 .1 in
-      let none : NoneOf (acknowledgementTests s) = (n .0, (n .1 .0, (n .1 .1 .0, (n .1 .1 .1 .0, (k .0, (k .1 .0, o .1 .1)))))) in
-      record { read = acknowledgement-accepted-iff s (acknowledgementIn s) .1 (none, refl); opened = not-false (c .opened) (o .0); counter = sent-iff .0 (not-false (isSent c s) (o .1 .0)) }
+      let a = none-split (connectedTests acknowledgementService s) (channelTests c (isSent c s) ++ last) .0 n in
+      let b = none-split (channelTests c (isSent c s)) last .0 (a .1) in
+      let none = none-split (connectedTests acknowledgementService s) last .1 (a .0, b .1) in
+      record { read = acknowledgement-accepted-iff s (acknowledgementIn s) .1 (none, refl); opened = not-false (c .opened) (b .0 .0); counter = sent-iff .0 (not-false (isSent c s) (b .0 .1 .0)) }
 
   answers : (a : Acknowledgement) → Answers a → NoneOf (confirmTests c s) × (acknowledgementIn s ≡ a)
   answers a w =
-      let n = acknowledgement-accepted-iff s a .0 (w .read) in
-      let k = n .0 .1 .1 .1 .1 in
-      let e : isSent c s ≡ true = sent-iff .1 (ap (λ (b : Acknowledgement). b .counter) (n .1) ∙ w .counter) in
-      ((n .0 .0, (n .0 .1 .0, (n .0 .1 .1 .0, (n .0 .1 .1 .1 .0, (k .0, (k .1 .0, (ap not (w .opened), (ap not e, k .1 .1)))))))), n .1)
+      let f = acknowledgement-accepted-iff s a .0 (w .read) in
+      let n = none-split (connectedTests acknowledgementService s) last .0 (f .0) in
+      let e : isSent c s ≡ true = sent-iff .1 (ap (λ (b : Acknowledgement). b .counter) (f .1) ∙ w .counter) in
+      let rest = none-split (channelTests c (isSent c s)) last .1 ((ap not (w .opened), (ap not e, tt)), n .1) in
+      (none-split (connectedTests acknowledgementService s) (channelTests c (isSent c s) ++ last) .1 (n .0, rest), f .1)
 
   settled-iff : (v : Confirmed) → ((r : Refusal) → Unconfirmed r ≡ v → ⊥) → confirmed c s ≡ v ↔ (NoneOf (confirmTests c s) × (confirmedBy s ≡ v))
   unfolding confirmed
@@ -193,3 +200,28 @@ module _ (c : Channel) (s : List ℕ) where
       go : (b : Bool) → eqb (statusIn s) 0 ≡ b → cond b Raised Kept ≡ Kept → statusIn s ≡ 0 → ⊥
       go true e f = raised-kept f
       go false e f = eqb-false (statusIn s) 0 e
+
+  confirm-once : (k : ℕ) (b : Bool) (r : Refusal) → confirmTests c s ≡ take k (confirmTests c s) ++ (b gives r ∷ drop (suc k) (confirmTests c s))
+      → givesNot (take k (confirmTests c s)) r ≡ true → givesNot (drop (suc k) (confirmTests c s)) r ≡ true
+      → confirmed c s ≡ Unconfirmed r ↔ (NoneOf (take k (confirmTests c s)) × (b ≡ true))
+  unfolding confirmed
+  confirm-once k b r e g h =
+      let w = refusal-once Unconfirmed (λ q r. unconfirmed-one) (take k (confirmTests c s)) (drop (suc k) (confirmTests c s)) b (confirmedBy s) r (no-refusal (eqb (statusIn s) 0)) g h in
+      rw (← e) at w
+    where
+      no-refusal : (x : Bool) → Unconfirmed r ≡ cond x Raised Kept → ⊥
+      no-refusal true = raised-refused
+      no-refusal false = kept-refused
+
+  pub confirm-19 : confirmed c s ≡ Unconfirmed OtherConnection ↔ (NoneOf (take 5 (confirmTests c s)) × (isOtherConnection s ≡ true))
+  confirm-19 = confirm-once 5 _ OtherConnection refl refl refl
+
+  pub confirm-20 : confirmed c s ≡ Unconfirmed NotOpen ↔ (NoneOf (take 6 (confirmTests c s)) × (not (c .opened) ≡ true))
+  confirm-20 = confirm-once 6 _ NotOpen refl refl refl
+
+  pub confirm-21 : confirmed c s ≡ Unconfirmed OtherCounter ↔ (NoneOf (take 7 (confirmTests c s)) × (not (isSent c s) ≡ true))
+  confirm-21 = confirm-once 7 _ OtherCounter refl refl refl
+
+  -- "for an acknowledgement 5 comes last"
+  pub confirm-5 : confirmed c s ≡ Unconfirmed LeftOver ↔ (NoneOf (take 8 (confirmTests c s)) × (ltb 10 (length s) ≡ true))
+  confirm-5 = confirm-once 8 _ LeftOver refl refl refl
