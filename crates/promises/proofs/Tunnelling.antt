@@ -11,6 +11,8 @@ use lib.ListN.{length, take, drop}
 use borrow.Author.Tests.{not-true, not-false, eqb-true, eqb-false, eq-eqb, ltb-false, le-ltb}
 use Rattle.octets.proofs.Truth.{by-cases, never, or-false, or-right, or-cases}
 use Rattle.octets.specs.Octets.{octetAt}
+use Rattle.frame.proofs.Apart.{fine-refuse}
+use Rattle.frame.proofs.Order.{passed-iff, refused-iff}
 use Rattle.frame.proofs.Numbers.{number-some, number-apart}
 use Rattle.frame.specs.Answers.{Numbered, accepted, refused, writtenNumbered}
 use Rattle.frame.specs.Order.{Test, NoneOf, firstOf, answerBy}
@@ -22,6 +24,7 @@ use Rattle.frame.specs.declared.Verdict.the-variants.{Fine, Refuse}
 use Rattle.frame.specs.declared.Verdict.{Verdict}
 use Rattle.frame.specs.declared.Written.the-variants.{Put, Refused as Unwritten}
 use Rattle.frame.specs.declared.Written.{Written}
+use Rattle.cemi.specs.Valid.{ValidMessage}
 use Rattle.cemi.specs.Writing.{messageInRange}
 use Rattle.cemi.specs.declared.Codes.the-variants.{All}
 use Rattle.cemi.specs.declared.Message.{Message}
@@ -35,7 +38,7 @@ use Rattle.tunnelling.proofs.Refusals.{request-accepted-iff, acknowledgement-ac
 use Rattle.tunnelling.proofs.RoundTrip.{request-read}
 use Rattle.tunnelling.specs.Answers.{requestValues, requestNumbered, acknowledgementValues, acknowledgementNumbered}
 use Rattle.tunnelling.specs.Layout.{connected, requestOctets, acknowledgementOctets}
-use Rattle.tunnelling.specs.Reading.{channelIn, counterIn, requestIn, readRequest, readAcknowledgement}
+use Rattle.tunnelling.specs.Reading.{channelIn, statusIn, requestIn, readRequest, readAcknowledgement}
 use Rattle.tunnelling.specs.declared.Acknowledgement.{Acknowledgement}
 use Rattle.tunnelling.specs.declared.AcknowledgementAnswer.the-variants.{Frame as Acknowledged}
 use Rattle.tunnelling.specs.declared.Request.{Request}
@@ -52,7 +55,7 @@ use Rattle.exchange.specs.declared.Confirmed.the-variants.{Raised, Kept, Refuse
 use Rattle.exchange.specs.declared.Confirmed.{Confirmed}
 use Rattle.exchange.specs.declared.Received.the-variants.{Delivered, Again, Refused}
 use Rattle.exchange.specs.declared.Received.{Received}
-use Rattle.promises.proofs.Ends.{EndsNumbered, ends-by}
+use Rattle.promises.proofs.Ends.{EndsNumbered, answers, refuses, ends-by}
 
 -- a counter "raised by one, 255 going to 0", and no other going there
 pub raised-to-zero : (n : ℕ) → n < 256 → raised n ≡ 0 ↔ (n ≡ 255)
@@ -234,3 +237,155 @@ module _ (cs : List Channel) (s room : List ℕ) (a : Received) (cs′ : List Ch
             let b : isBehind named s ≡ false = by-cases (isBehind named s) (λ f. absurd (n .1 .1 (behind-iff named s .0 f))) (λ f. f) in
             ap (λ (b : Received). receivedNumbered b .number) (answer-is ∙ i .1 (n .0, (λ j. not (e j || b j)))),
       )
+
+-- Sending a request
+
+module _ (cs : List Channel) (k : ℕ) (x : Message) (p room : List ℕ) (a : Written) (room′ : List ℕ) (w : Sent cs k x p room a room′) where
+  -- the request that goes out, "with the send counter" of its channel
+  abbrev outgoing : List ℕ
+  outgoing = requestOctets k (channelAt cs k .send) x p
+
+  -- "Sending checks 14, 20, 13"; otherwise 0 and the written size. There is no table that it could leave: the counter is not raised.
+  pub send-ends : EndsNumbered (length outgoing ∷ []) (sendTests (messageInRange All x (length p)) (channelAt cs k) outgoing (length room)) (writtenNumbered a)
+  unfolding sentBy
+  send-ends =
+      rw (w .answers)
+      (ends-by refused (accepted (length outgoing ∷ [])) (λ v. writtenNumbered (answerBy Unwritten (Put (length outgoing)) v)) refl (λ r. refl) (sendTests (messageInRange All x (length p)) (channelAt cs k) outgoing (length room)))
+
+  pub send-refused : (writtenNumbered a .number ≡ 0 → ⊥) → room′ ≡ room
+  send-refused n = w .left ∙ go a n
+    where
+      go : (b : Written) → (writtenNumbered b .number ≡ 0 → ⊥) → roomAfter b outgoing room ≡ room
+      go (Put m) n = absurd (n refl)
+      go (Unwritten r) n = refl
+
+  -- it goes out exactly if its numbers are in range, its channel is open and the room has its size
+  pub sent-exactly : writtenNumbered a .number ≡ 0 ↔ ((messageInRange All x (length p) ≡ true) × ((channelAt cs k .opened ≡ true) × (length outgoing ≤ length room)))
+  sent-exactly = (
+    (λ z. go send-ends z),
+    λ g. go-back send-ends (ap not (g .0), (ap not (g .1 .0), (le-ltb (length room) (length outgoing) (g .1 .1), tt))),
+  )
+    where
+      ts : List Test
+      ts = sendTests (messageInRange All x (length p)) (channelAt cs k) outgoing (length room)
+
+      go : EndsNumbered (length outgoing ∷ []) ts (writtenNumbered a) → writtenNumbered a .number ≡ 0 → (messageInRange All x (length p) ≡ true) × ((channelAt cs k .opened ≡ true) × (length outgoing ≤ length room))
+      go (answers n e) z = (not-false _ (n .0), (not-false _ (n .1 .0), ltb-false _ _ (n .1 .1 .0)))
+      go (refuses r f e) z = absurd (number-some r (sym (ap (λ (m : Numbered). m .number) e) ∙ z))
+
+      go-back : EndsNumbered (length outgoing ∷ []) ts (writtenNumbered a) → NoneOf ts → writtenNumbered a .number ≡ 0
+      go-back (answers n e) m = ap (λ (m : Numbered). m .number) e
+      go-back (refuses r f e) m = fine-refuse (sym (passed-iff ts .1 m) ∙ refused-iff ts r .1 f)
+
+  -- and then stands at the front of the room
+  pub sends : writtenNumbered a .number ≡ 0 → (writtenNumbered a ≡ accepted (length outgoing ∷ [])) × (room′ ≡ outgoing ++ drop (length outgoing) room)
+  sends z = (size send-ends, w .left ∙ go a z)
+    where
+      size : EndsNumbered (length outgoing ∷ []) (sendTests (messageInRange All x (length p)) (channelAt cs k) outgoing (length room)) (writtenNumbered a) → writtenNumbered a ≡ accepted (length outgoing ∷ [])
+      size (answers n e) = e
+      size (refuses r f e) = absurd (number-some r (sym (ap (λ (m : Numbered). m .number) e) ∙ z))
+
+      go : (b : Written) → writtenNumbered b .number ≡ 0 → roomAfter b outgoing room ≡ outgoing ++ drop (length outgoing) room
+      go (Put m) z = refl
+      go (Unwritten r) z = absurd (number-some r z)
+
+  -- what is sent is delivered on the other side, message and all, where that channel is open and expects this side's send counter
+  pub sent-is-delivered : ValidMessage All x p → (ds : List Channel) (lent : List ℕ) (b : Received) (ds′ : List Channel) (lent′ : List ℕ) → Took ds outgoing lent b ds′ lent′
+      → 10 ≤ length lent → channelAt ds k .opened ≡ true → channelAt ds k .receive ≡ channelAt cs k .send
+      → receivedNumbered b ≡ accepted (requestValues (record { channel = k; counter = channelAt cs k .send; message = x }))
+  sent-is-delivered v ds lent b ds′ lent′ g h o e =
+      let r : Request = record { channel = k; counter = channelAt cs k .send; message = x } in
+      delivered-exactly ds outgoing lent b ds′ lent′ g r .1 (record { fits = h; read = ap requestNumbered (request-read r p v); opened = o }, sym e)
+
+-- Receiving an acknowledgement
+
+-- an acknowledgement of a channel's request: the reader accepts it, the channel is open, and its counter is the one that the request went
+-- out with
+pub record Confirms (cs : List Channel) (s : List ℕ) (k : Acknowledgement) : Type 0 where
+  pub read : acknowledgementNumbered (readAcknowledgement s) ≡ accepted (acknowledgementValues k)
+  pub opened : channelAt cs (k .channel) .opened ≡ true
+  pub counter : k .counter ≡ channelAt cs (k .channel) .send
+
+module _ (cs : List Channel) (s : List ℕ) (a : Confirmed) (cs′ : List Channel) (w : Called (confirming s) cs a cs′) where
+  abbrev owner : Channel
+  owner = channelAt cs (channelIn s)
+
+  -- 0 and whether the counter is raised, or the number of the first refusal in R-1's order
+  pub confirm-ends : EndsNumbered (confirmedNumbered (confirmedBy s) .values) (confirmTests owner s) (confirmedNumbered a)
+  unfolding confirmed
+  confirm-ends = rw (w .answers) (go (eqb (statusIn s) 0))
+    where
+      go : (e : Bool) → EndsNumbered (confirmedNumbered (cond e Raised Kept) .values) (confirmTests owner s) (confirmedNumbered (answerBy Unconfirmed (cond e Raised Kept) (firstOf (confirmTests owner s))))
+      go true = ends-by refused (accepted (1 ∷ [])) (λ v. confirmedNumbered (answerBy Unconfirmed Raised v)) refl (λ r. refl) (confirmTests owner s)
+      go false = ends-by refused (accepted (0 ∷ [])) (λ v. confirmedNumbered (answerBy Unconfirmed Kept v)) refl (λ r. refl) (confirmTests owner s)
+
+  where-it-lies : (k : Acknowledgement) → readAcknowledgement s ≡ Acknowledged k → channelIn s ≡ k .channel
+  where-it-lies k e = ap (λ (y : Acknowledgement). y .channel) (acknowledgement-accepted-iff s k .0 e .1)
+
+  confirms : (k : Acknowledgement) → Answers owner s k → Confirms cs s k
+  confirms k g =
+      let e = where-it-lies k (g .read) in
+      record { read = ap acknowledgementNumbered (g .read); opened = ap (λ (n : ℕ). channelAt cs n .opened) (sym e) ∙ g .opened; counter = g .counter ∙ ap (λ (n : ℕ). channelAt cs n .send) e }
+
+  answering : (k : Acknowledgement) → Confirms cs s k → Answers owner s k
+  answering k g =
+      let r : readAcknowledgement s ≡ Acknowledged k = acknowledgement-tells .apart (readAcknowledgement s) (Acknowledged k) (g .read) in
+      let e = where-it-lies k r in
+      record { read = r; opened = ap (λ (n : ℕ). channelAt cs n .opened) e ∙ g .opened; counter = g .counter ∙ ap (λ (n : ℕ). channelAt cs n .send) (sym e) }
+
+  -- "an acknowledgement of that counter with status 00h raises it"
+  pub raised-exactly : confirmedNumbered a ≡ accepted (1 ∷ []) ↔ ((k : Acknowledgement) × (Confirms cs s k × (k .status ≡ 0)))
+  raised-exactly = (
+    (λ e. let d = raised-iff owner s .0 (sym (w .answers) ∙ confirmed-tells .apart a Raised e) in (d .0, (confirms (d .0) (d .1 .0), d .1 .1))),
+    λ g. ap confirmedNumbered (w .answers ∙ raised-iff owner s .1 (g .0, (answering (g .0) (g .1 .0), g .1 .1))),
+  )
+
+  -- "with another status changes nothing"
+  pub kept-exactly : confirmedNumbered a ≡ accepted (0 ∷ []) ↔ ((k : Acknowledgement) × (Confirms cs s k × (k .status ≡ 0 → ⊥)))
+  kept-exactly = (
+    (λ e. let d = kept-iff owner s .0 (sym (w .answers) ∙ confirmed-tells .apart a Kept e) in (d .0, (confirms (d .0) (d .1 .0), d .1 .1))),
+    λ g. ap confirmedNumbered (w .answers ∙ kept-iff owner s .1 (g .0, (answering (g .0) (g .1 .0), g .1 .1))),
+  )
+
+  -- raised is the send counter of its channel, and nothing else of the table
+  pub confirm-raises : (k : Acknowledgement) → Confirms cs s k → k .status ≡ 0
+      → cs′ ≡ put cs (k .channel) (counted (channelAt cs (k .channel)) (channelAt cs (k .channel) .receive) (raised (channelAt cs (k .channel) .send)))
+  confirm-raises k g z =
+      let e = where-it-lies k (answering k g .read) in
+      let f : confirmed owner s ≡ Raised = raised-iff owner s .1 (k, (answering k g, z)) in
+      w .table ∙ (λ i. put cs (e i) (channelConfirmed (f i) (channelAt cs (e i))))
+
+  -- every other answer, a refusal among them, leaves the table
+  pub confirm-stays : (confirmedNumbered a ≡ accepted (1 ∷ []) → ⊥) → cs′ ≡ cs
+  confirm-stays n = w .table ∙ ap (λ (y : Confirmed). put cs (channelIn s) (channelConfirmed y owner)) (sym (w .answers)) ∙ ap (put cs (channelIn s)) (go a n) ∙ put-back cs (channelIn s)
+    where
+      go : (b : Confirmed) → (confirmedNumbered b ≡ accepted (1 ∷ []) → ⊥) → channelConfirmed b owner ≡ owner
+      go Raised n = absurd (n refl)
+      go Kept n = refl
+      go (Unconfirmed r) n = refl
+
+  -- so that a send counter is another afterwards exactly if an acknowledgement of it came with status 00h
+  pub send-raised-exactly : (j : ℕ) → (channelAt cs′ j .send ≡ channelAt cs j .send → ⊥) ↔ ((k : Acknowledgement) × ((Confirms cs s k × (k .status ≡ 0)) × (k .channel ≡ j)))
+  send-raised-exactly j = ((λ n. go a refl n), back)
+    where
+      back : (k : Acknowledgement) × ((Confirms cs s k × (k .status ≡ 0)) × (k .channel ≡ j)) → channelAt cs′ j .send ≡ channelAt cs j .send → ⊥
+      back g e =
+          let k = g .0 in
+          let c : Channel = channelAt cs (k .channel) in
+          let there = ap (λ (l : List Channel). channelAt l (k .channel)) (confirm-raises k (g .1 .0 .0) (g .1 .0 .1)) ∙ at-put cs (k .channel) (counted c (c .receive) (raised (c .send))) (g .1 .0 .0 .opened) in
+          raised-other (c .send) (sym (ap (λ (y : Channel). y .send) there) ∙ rw (g .1 .1) e)
+
+      go : (b : Confirmed) → a ≡ b → (channelAt cs′ j .send ≡ channelAt cs j .send → ⊥) → (k : Acknowledgement) × ((Confirms cs s k × (k .status ≡ 0)) × (k .channel ≡ j))
+      go Raised e n =
+          let d = raised-exactly .0 (ap confirmedNumbered e) in
+          let k = d .0 in
+          let c : Channel = channelAt cs (k .channel) in (
+            k,
+            (
+              d .1,
+              by-cases (eqb (k .channel) j) (eqb-true (k .channel) j)
+                  (λ f. absurd (n (ap (λ (l : List Channel). channelAt l j .send) (confirm-raises k (d .1 .0) (d .1 .1)) ∙ ap (λ (y : Channel). y .send) (at-other cs (k .channel) j (counted c (c .receive) (raised (c .send))) (eqb-false (k .channel) j f))))),
+            ),
+          )
+      go Kept e n = absurd (n (ap (λ (l : List Channel). channelAt l j .send) (confirm-stays (λ f. raised-kept (sym (sym e ∙ confirmed-tells .apart a Raised f))))))
+      go (Unconfirmed r) e n = absurd (n (ap (λ (l : List Channel). channelAt l j .send) (confirm-stays (λ f. raised-refused (sym e ∙ confirmed-tells .apart a Raised f)))))

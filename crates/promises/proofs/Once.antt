@@ -1,0 +1,72 @@
+-- Beyond R-1, and the reason that it exists: over one channel each of a client's messages is delivered once and in order, whatever copies of
+-- its requests a network repeats and whatever arrives damaged among them.
+-- The premise is `Keeps` (exchange Series): the client goes on to a request only when those before it were acknowledged, no copy of a request
+-- comes after 255 later ones, and what is damaged is no request. Without each of the first two it fails: `gone-on-too-soon`, `kept-too-long`.
+use Prim.Native.Nat.{ℕ, _≤_, _<_}
+use mathlib.Core.Bool.{true}
+use mathlib.Core.List.{List}
+use mathlib.Core.Logic.{_↔_}
+use mathlib.Core.Path.{_≡_, refl, sym, ap, _∙_}
+use native.Mathlib.Nat.{zero-add}
+use native.Mathlib.Omega.{arith}
+use lib.ListN.{length}
+use Rattle.cemi.proofs.Refusals.{accepted-iff}
+use Rattle.cemi.proofs.Answers.{cemi-tells}
+use Rattle.cemi.specs.Answers.{cemiNumbered}
+use Rattle.cemi.specs.Reading.{readCemi}
+use Rattle.cemi.specs.declared.CemiAnswer.the-variants.{Frame as Read, Refused as Unread}
+use Rattle.cemi.specs.declared.CemiAnswer.{CemiAnswer}
+use Rattle.cemi.specs.declared.Codes.the-variants.{All}
+use Rattle.cemi.specs.declared.Message.{Message}
+use Rattle.channels.specs.Table.{channelAt}
+use Rattle.channels.specs.declared.Channel.{Channel}
+use Rattle.tunnelling.proofs.RoundTrip.{requestBy, connected-read}
+use Rattle.tunnelling.specs.Answers.{requestValues, requestNumbered}
+use Rattle.tunnelling.specs.Reading.{readRequest}
+use Rattle.tunnelling.specs.declared.RequestAnswer.the-variants.{Frame}
+use Rattle.frame.specs.Answers.{accepted}
+use Rattle.exchange.proofs.SeriesLaws.{Awaits, once-from, comes-iff}
+use Rattle.exchange.specs.Answers.{receivedNumbered}
+use Rattle.exchange.specs.Receiving.{Took}
+use Rattle.exchange.specs.Series.{Client, Readable, counterOf, requestOf, meant, fromOn, Arrival, Keeps, news, comes, Done, Receives, deliveredBy}
+use Rattle.exchange.specs.declared.Received.{Received}
+use Rattle.promises.proofs.Tunnelling.{delivered-exactly}
+
+module _ (k : Client) (readable : Readable k) where
+  -- a client's requests are read as what they mean
+  reads : (j : ℕ) → readRequest (requestOf k j) ≡ Frame (meant k j)
+  reads j = connected-read (k .channel) (counterOf k j) 0x00 (k .message j) ∙ go (readCemi All (k .message j)) refl (readable j)
+    where
+      go : (a : CemiAnswer) → readCemi All (k .message j) ≡ a → cemiNumbered a .number ≡ 0 → requestBy (k .channel) (counterOf k j) (readCemi All (k .message j)) ≡ Frame (meant k j)
+      go (Read x) e z =
+          ap (requestBy (k .channel) (counterOf k j)) e
+          ∙ ap (λ (m : Message). Frame (record { channel = k .channel; counter = counterOf k j; message = m })) (sym (accepted-iff All (k .message j) x .0 e .1))
+      go (Unread r) e z = absurd (cemi-tells .zero (Unread r) .0 z r refl)
+
+  -- the table at the start: the client's channel is open and expects the counter of its first request
+  pub record Opened (cs : List Channel) : Type 0 where
+    pub opened : channelAt cs (k .channel) .opened ≡ true
+    pub counter : channelAt cs (k .channel) .receive ≡ counterOf k 0
+
+  -- what the calls deliver is the client's requests from the first on, each once and in order, as many as came
+  pub delivered-once : (cs : List Channel) (series : List Arrival) (calls : List Done) → Opened cs → Keeps k 0 series → Receives k cs series calls → deliveredBy calls ≡ fromOn k 0 (news 0 series)
+  delivered-once cs series calls o = once-from k reads series 0 cs calls (record { opened = o .opened; counter = o .counter })
+
+  -- and among these is each of which a copy came, and no other
+  pub delivered-if-it-came : (series : List Arrival) → Keeps k 0 series → (j : ℕ) → comes j series ≡ true ↔ (j < news 0 series)
+  delivered-if-it-came series p j = rw zero-add at (comes-iff k j 0 series (omega arith) p)
+
+  -- A client that goes on although nothing was acknowledged: its second request, come first, is not delivered.
+  pub gone-on-too-soon : (cs : List Channel) (room : List ℕ) (a : Received) (cs′ : List Channel) (room′ : List ℕ) → Opened cs → Took cs (requestOf k 1) room a cs′ room′
+      → receivedNumbered a ≡ accepted (requestValues (meant k 1)) → ⊥
+  gone-on-too-soon cs room a cs′ room′ o g e =
+      let d = delivered-exactly cs (requestOf k 1) room a cs′ room′ g (meant k 1) .0 e .1 ∙ o .counter in
+      omega arith
+
+  -- A copy of the first request that comes after 256 of them is delivered a second time.
+  pub kept-too-long : (cs : List Channel) (room : List ℕ) (a : Received) (cs′ : List Channel) (room′ : List ℕ)
+      → channelAt cs (k .channel) .opened ≡ true → channelAt cs (k .channel) .receive ≡ counterOf k 256 → 10 ≤ length room → Took cs (requestOf k 0) room a cs′ room′
+      → receivedNumbered a ≡ accepted (requestValues (meant k 0))
+  kept-too-long cs room a cs′ room′ o e h g =
+      let same : counterOf k 0 ≡ counterOf k 256 = omega arith in
+      delivered-exactly cs (requestOf k 0) room a cs′ room′ g (meant k 0) .1 (record { fits = h; read = ap requestNumbered (reads 0); opened = o }, same ∙ sym e)
