@@ -2,35 +2,48 @@
 -- its requests a network repeats and whatever arrives damaged among them.
 -- The premise is `Keeps` (exchange Series): the client goes on to a request only when those before it were acknowledged, no copy of a request
 -- comes after 255 later ones, and what is damaged is no request. Without each of the first two it fails: `gone-on-too-soon`, `kept-too-long`.
-use Prim.Native.Nat.{ℕ, _≤_, _<_}
-use mathlib.Core.Bool.{true}
-use mathlib.Core.List.{List}
+use Prim.Native.Nat.{ℕ, _+_, _%_, _≤_, _<_}
+use mathlib.Core.Bool.{true, not}
+use mathlib.Core.List.{List, [], _∷_}
 use mathlib.Core.Logic.{_↔_}
 use mathlib.Core.Path.{_≡_, refl, sym, ap, _∙_}
 use native.Mathlib.Nat.{zero-add}
 use native.Mathlib.Omega.{arith}
 use lib.ListN.{length}
+use borrow.Author.Tests.{le-ltb}
 use Rattle.cemi.proofs.Refusals.{accepted-iff}
 use Rattle.cemi.proofs.Answers.{cemi-tells}
 use Rattle.cemi.specs.Answers.{cemiNumbered}
-use Rattle.cemi.specs.Reading.{readCemi}
+use Rattle.cemi.specs.Reading.{cemiTests, readCemi}
 use Rattle.cemi.specs.declared.CemiAnswer.the-variants.{Frame as Read, Refused as Unread}
 use Rattle.cemi.specs.declared.CemiAnswer.{CemiAnswer}
 use Rattle.cemi.specs.declared.Codes.the-variants.{All}
 use Rattle.cemi.specs.declared.Message.{Message}
-use Rattle.channels.specs.Table.{channelAt}
+use Rattle.channels.specs.Table.{channelAt, raised}
 use Rattle.channels.specs.declared.Channel.{Channel}
+use Rattle.tunnelling.proofs.Refusals.{request-accepted-iff}
 use Rattle.tunnelling.proofs.RoundTrip.{requestBy, connected-read}
 use Rattle.tunnelling.specs.Answers.{requestValues, requestNumbered}
-use Rattle.tunnelling.specs.Reading.{readRequest}
+use Rattle.tunnelling.specs.Layout.{requestService}
+use Rattle.tunnelling.specs.Reading.{channelIn, message, connectedTests, readRequest}
+use Rattle.tunnelling.specs.declared.Request.{Request}
 use Rattle.tunnelling.specs.declared.RequestAnswer.the-variants.{Frame}
+use Rattle.frame.proofs.Order.{none-split}
 use Rattle.frame.specs.Answers.{accepted}
+use Rattle.frame.specs.Order.{_gives_}
+use Rattle.frame.specs.declared.Refusal.the-variants.{NotOpen}
+use Rattle.octets.specs.Octets.{octetAt}
 use Rattle.exchange.proofs.SeriesLaws.{Awaits, once-from, comes-iff}
 use Rattle.exchange.specs.Answers.{receivedNumbered}
 use Rattle.exchange.specs.Receiving.{Took}
 use Rattle.exchange.specs.Series.{Client, Readable, counterOf, requestOf, meant, fromOn, Arrival, Keeps, news, comes, Done, Receives, deliveredBy}
 use Rattle.exchange.specs.declared.Received.{Received}
-use Rattle.promises.proofs.Tunnelling.{delivered-exactly}
+use Rattle.promises.proofs.Tunnelling.{delivered-exactly, other-counter-exactly}
+
+-- two counters further on is another counter
+further : (n : ℕ) → raised ((n + 1) % 256) ≡ (n + 0) % 256 → ⊥
+unfolding raised
+further n e = omega arith
 
 module _ (k : Client) (readable : Readable k) where
   -- a client's requests are read as what they mean
@@ -56,12 +69,25 @@ module _ (k : Client) (readable : Readable k) where
   pub delivered-if-it-came : (series : List Arrival) → Keeps k 0 series → (j : ℕ) → comes j series ≡ true ↔ (j < news 0 series)
   delivered-if-it-came series p j = rw zero-add at (comes-iff k j 0 series (omega arith) p)
 
-  -- A client that goes on although nothing was acknowledged: its second request, come first, is not delivered.
-  pub gone-on-too-soon : (cs : List Channel) (room : List ℕ) (a : Received) (cs′ : List Channel) (room′ : List ℕ) → Opened cs → Took cs (requestOf k 1) room a cs′ room′
-      → receivedNumbered a ≡ accepted (requestValues (meant k 1)) → ⊥
-  gone-on-too-soon cs room a cs′ room′ o g e =
-      let d = delivered-exactly cs (requestOf k 1) room a cs′ room′ g (meant k 1) .0 e .1 ∙ o .counter in
-      omega arith
+  -- A client that goes on although nothing was acknowledged: its second request, come first, is refused by 21.
+  pub gone-on-too-soon : (cs : List Channel) (room : List ℕ) (a : Received) (cs′ : List Channel) (room′ : List ℕ) → Opened cs → 10 ≤ length room → Took cs (requestOf k 1) room a cs′ room′
+      → receivedNumbered a .number ≡ 21
+  gone-on-too-soon cs room a cs′ room′ o h g =
+      let s : List ℕ = requestOf k 1 in
+      let w = request-accepted-iff s (meant k 1) .0 (reads 1) in
+      let here : channelIn s ≡ k .channel = ap (λ (x : Request). x .channel) (w .1) in
+      let counter : octetAt s 8 ≡ counterOf k 1 = ap (λ (x : Request). x .counter) (w .1) in
+      let opened : channelAt cs (channelIn s) .opened ≡ true = ap (λ (n : ℕ). channelAt cs n .opened) here ∙ o .opened in
+      let expected : channelAt cs (channelIn s) .receive ≡ counterOf k 0 = ap (λ (n : ℕ). channelAt cs n .receive) here ∙ o .counter in
+      let before = none-split (connectedTests requestService s) (cemiTests All (message s)) .0 (w .0) .0 in
+      let rest = none-split (connectedTests requestService s) (not (channelAt cs (channelIn s) .opened) gives NotOpen ∷ []) .1 (before, (ap not opened, tt)) in
+      other-counter-exactly cs s room a cs′ room′ g .1 ((le-ltb (length room) 10 h, rest), ((λ e. absurd (ahead (sym counter ∙ e ∙ expected))), λ e. absurd (behind (ap raised (sym counter) ∙ e ∙ expected))))
+    where
+      ahead : counterOf k 1 ≡ counterOf k 0 → ⊥
+      ahead e = omega arith
+
+      behind : raised (counterOf k 1) ≡ counterOf k 0 → ⊥
+      behind e = further (k .first) e
 
   -- A copy of the first request that comes after 256 of them is delivered a second time.
   pub kept-too-long : (cs : List Channel) (room : List ℕ) (a : Received) (cs′ : List Channel) (room′ : List ℕ)
