@@ -1,5 +1,6 @@
 pub mod Surface
 pub mod BlockLaws
+pub mod ChannelLaws
 pub mod Bits
 pub mod Telling
 pub mod ReaderNumbers

@@ -2,7 +2,7 @@
 use Prim.Native.Nat.{ℕ, _%_, _^_, _≤_, _<_}
 use mathlib.Core.Bool.{Bool, true, false, cond, _&&_}
 use mathlib.Core.List.{List}
-use mathlib.Core.Path.{_≡_, refl, sym, ap, _∙_}
+use mathlib.Core.Path.{_≡_, refl, sym, ap, _∙_, subst}
 use native.Mathlib.Omega.{arith}
 use lib.Dec.{ltb, eqb}
 use lib.ListN.{length}
@@ -15,10 +15,10 @@ use Rattle.frame.specs.declared.Meaning.{Meaning}
 use Rattle.frame.specs.declared.Refusal.the-variants.{OutOfRange}
 use Rattle.frame.specs.declared.Verdict.{Verdict}
 use Rattle.frame.specs.declared.Written.{Written}
-use Rattle.klumdray.specs.Numbers.{flagsOf, meaningNumber, codeNumber, areFlags, areOctets, areWords, areNumbers, areMarks, meaningFrom, messageFrom, writtenNumber, WroteNumber}
+use Rattle.klumdray.specs.Numbers.{flagsOf, meaningNumber, codeNumber, areFlags, areOctets, areWords, areNumbers, areMarks, areConnected, meaningFrom, messageFrom, acknowledgementFrom, writtenNumber, WroteNumber}
 use Rattle.klumdray.specs.Stages.{Sized}
 use Rattle.klumdray.specs.Traces.{tracedNumber, explanationNumber, queryFits, traceThroughTests, TracedThrough, whyThrough}
-use Rattle.octets.proofs.Truth.{and-true}
+use Rattle.octets.proofs.Truth.{and-true, and-yes}
 use Rattle.octets.proofs.Weigh.{weigh-most}
 use Rattle.octets.specs.Room.{over}
 use Rattle.site.specs.Stores.{Stores}
@@ -28,10 +28,11 @@ use Rattle.tracer.specs.Why.{answerWhy}
 use Rattle.tracer.specs.declared.Explanation.{Explanation}
 use Rattle.tracer.specs.declared.Traced.{Traced}
 use Rattle.tracer.specs.declared.Query.{Query}
+use Rattle.tunnelling.specs.declared.Acknowledgement.{Acknowledgement}
 use Rattle.frame.specs.declared.Written.the-variants.{Put, Refused as Unwritten}
 
 -- a size that is written has a number
-pub sized : {ranged : Bool} {octets room after : List ℕ} (w : Written) → Wrote ranged octets room w after → (ranged ≡ true → length octets ≤ 270) → Sized w
+pub sized : {ranged : Bool} {octets room after : List ℕ} (w : Written) → Wrote ranged octets room w after → (ranged ≡ true → length octets ≤ 274) → Sized w
 sized {ranged} {octets} {room} (Put n) x h =
     let e = put-iff ranged octets room n .0 (sym (x .answered)) in
     omega (arith, h (e .0))
@@ -48,12 +49,28 @@ unfit-refused fit ranged octets room f =
     let a : written (fit && ranged) octets room ≡ Unwritten OutOfRange = unranged-iff (fit && ranged) octets room .1 (rw f) in
     record { answered = sym (ap writtenNumber a); left = sym (ap (λ (v : Written). roomAfter v octets room) a) }
 
+-- a writer that has no range but that the numbers fit
+
+pub wrote-fit : {fit : Bool} {octets room after : List ℕ} {r : ℕ} (w : Written) → fit ≡ true → Wrote true octets room w after → r ≡ writtenNumber w → WroteNumber fit octets room r after
+wrote-fit {fit} {octets} {room} {after} {r} w f x e = subst (λ (b : Bool). WroteNumber b octets room r after) (and-yes fit) (wrote-number w f x e)
+
+pub unfit-alone : (fit : Bool) (octets room : List ℕ) → fit ≡ false → WroteNumber fit octets room 14 room
+unfit-alone fit octets room f = subst (λ (b : Bool). WroteNumber b octets room 14 room) (and-yes fit) (unfit-refused fit true octets room f)
+
 -- the tests as the code makes them
 pub tested : {flags octets words flags′ octets′ words′ b : Bool} → flags ≡ flags′ → octets ≡ octets′ → words ≡ words′ → flags && octets && words ≡ b → flags′ && octets′ && words′ ≡ b
 tested f o w h = rw (← f, ← o, ← w) h
 
 pub tested-marks : {flags octets words marks flags′ octets′ words′ marks′ b : Bool} → flags ≡ flags′ → octets ≡ octets′ → words ≡ words′ → marks ≡ marks′ → flags && octets && words && marks ≡ b → flags′ && octets′ && words′ && marks′ ≡ b
 tested-marks f o w m h = rw (← f, ← o, ← w, ← m) h
+
+pub tested-connected : {flags octets words marks connected flags′ octets′ words′ marks′ connected′ b : Bool} → flags ≡ flags′ → octets ≡ octets′ → words ≡ words′ → marks ≡ marks′ → connected ≡ connected′
+    → flags && octets && words && marks && connected ≡ b → flags′ && octets′ && words′ && marks′ && connected′ ≡ b
+tested-connected f o w m k h = rw (← f, ← o, ← w, ← m, ← k) h
+
+pub tested-block : {right flags octets words marks right′ flags′ octets′ words′ marks′ b : Bool} → right ≡ right′ → flags ≡ flags′ → octets ≡ octets′ → words ≡ words′ → marks ≡ marks′
+    → right && (flags && octets && words && marks) ≡ b → right′ && (flags′ && octets′ && words′ && marks′) ≡ b
+tested-block k f o w m h = rw (← k, ← f, ← o, ← w, ← m) h
 
 -- a number that fits is its own remainder: what the inner writer is handed is what the caller gives
 
@@ -75,6 +92,20 @@ meaning-kept extended first priority source group destination count e h =
 pub message-kept : (code error : ℕ) {m : Meaning} {x : Message} → areMarks code error ≡ true → x ≡ messageFrom (code % 256) error m → x ≡ messageFrom code error m
 unfolding areMarks
 message-kept code error e h = rw (octet-kept code (and-true (ltb code 256) (ltb error 2) e .0)) at h
+
+pub octets-kept : (channel counter : ℕ) → areOctets channel counter ≡ true → (channel % 256 ≡ channel) × (counter % 256 ≡ counter)
+unfolding areOctets
+octets-kept channel counter e =
+    let both = and-true (ltb channel 256) (ltb counter 256) e in
+    (octet-kept channel (both .0), octet-kept counter (both .1))
+
+pub acknowledgement-kept : (channel counter status : ℕ) {a : Acknowledgement} → areConnected channel counter status ≡ true
+    → a ≡ acknowledgementFrom (channel % 256) (counter % 256) (status % 256) → a ≡ acknowledgementFrom channel counter status
+unfolding areConnected
+acknowledgement-kept channel counter status e h =
+    let both = and-true (ltb channel 256 && ltb counter 256) (ltb status 256) e in
+    let first = and-true (ltb channel 256) (ltb counter 256) (both .0) in
+    rw (octet-kept channel (first .0), octet-kept counter (first .1), octet-kept status (both .1)) at h
 
 -- the same of the tracer's calls
 

@@ -1,4 +1,4 @@
--- A writer's number is the size above eight bits. No format's frame has more than 270 octets.
+-- A writer's number is the size above eight bits. No frame has more than 274 octets.
 use Prim.Native.Nat.{ℕ, _*_, _^_, _≤_}
 use mathlib.Core.Bool.{Bool, true, _&&_}
 use mathlib.Core.List.{List, [], _∷_}
@@ -8,6 +8,7 @@ use lib.ListN.{length, getD}
 use Rattle.cemi.proofs.LayoutLaws.{message-ranges, length-plain}
 use Rattle.cemi.specs.Layout.{plain}
 use Rattle.cemi.specs.Writing.{messageInRange}
+use Rattle.cemi.specs.declared.Codes.the-variants.{All}
 use Rattle.cemi.specs.declared.Codes.{Codes}
 use Rattle.cemi.specs.declared.Message.{Message}
 use Rattle.frame.proofs.Apart.{put-refused, unwritten-one}
@@ -29,8 +30,10 @@ use Rattle.routing.proofs.LayoutLaws.{length-routing}
 use Rattle.routing.specs.Layout.{routingOctets}
 use Rattle.tp1.proofs.LayoutLaws.{octets-most}
 use Rattle.tp1.specs.Layout.{tp1Octets}
+use Rattle.tunnelling.proofs.LayoutLaws.{length-request}
+use Rattle.tunnelling.specs.Layout.{requestOctets}
 
-written-answer : (w : Written) → ((n : ℕ) → w ≡ Put n → n ≤ 270) → Tells 64 writtenFrom (writtenNumber w) (writtenNumbered w) (λ r. w ≡ Refused r)
+written-answer : (w : Written) → ((n : ℕ) → w ≡ Put n → n ≤ 274) → Tells 64 writtenFrom (writtenNumber w) (writtenNumbered w) (λ r. w ≡ Refused r)
 written-answer (Put n) h =
     let fs : List Field = 8 holding 0 ∷ 56 holding n ∷ [] in
     let fit : Fit fs = (omega arith, (omega (arith, h n refl), tt)) in
@@ -40,7 +43,7 @@ written-answer (Put n) h =
     tells-accepted z (λ r e. put-refused (sym e)) (below fs (n * 2 ^ 8) fit e) (rw (z, field 1 (omega arith)))
 written-answer (Refused q) h = tells-refused q refl refl (λ r. unwritten-one) (omega arith) (rw (number-alone q, refused-number q))
 
-module _ {ranged : Bool} {octets room : List ℕ} {answer : ℕ} {after : List ℕ} (most : ranged ≡ true → length octets ≤ 270) (w : WroteNumber ranged octets room answer after) where
+module _ {ranged : Bool} {octets room : List ℕ} {answer : ℕ} {after : List ℕ} (most : ranged ≡ true → length octets ≤ 274) (w : WroteNumber ranged octets room answer after) where
   pub written-told : Tells 64 writtenFrom answer (writtenNumbered (written ranged octets room)) (λ r. written ranged octets room ≡ Refused r)
   written-told =
       rw (w .answered) (written-answer (written ranged octets room) (λ n e. let x = put-iff ranged octets room n .0 e in omega (arith, most (x .0), x .1 .1)))
@@ -65,15 +68,18 @@ module _ {ranged : Bool} {octets room : List ℕ} {answer : ℕ} {after : List �
       go (Refused r) e = w .left ∙ ap (λ (v : Written). roomAfter v octets room) e
 
 -- each format's frame, where the numbers are in range
-pub tp1-most : (fit : Bool) (m : Meaning) (p : List ℕ) → fit && inRange m (length p) ≡ true → length (tp1Octets m p) ≤ 270
+pub tp1-most : (fit : Bool) (m : Meaning) (p : List ℕ) → fit && inRange m (length p) ≡ true → length (tp1Octets m p) ≤ 274
 tp1-most fit m p e = omega (arith, octets-most m p (and-true fit (inRange m (length p)) e .1))
 
 module _ (fit : Bool) (codes : Codes) (x : Message) (p : List ℕ) (e : fit && messageInRange codes x (length p) ≡ true) where
   payload : length p ≤ 255
   payload = most-payload (x .meaning) (length p) (message-ranges codes x (length p) (and-true fit (messageInRange codes x (length p)) e .1) .meaning)
 
-  pub cemi-most : length (plain x p) ≤ 270
+  pub cemi-most : length (plain x p) ≤ 274
   cemi-most = omega (arith, length-plain x p, payload)
 
-  pub routing-most : length (routingOctets x p) ≤ 270
+  pub routing-most : length (routingOctets x p) ≤ 274
   routing-most = omega (arith, length-routing x p, payload)
+
+pub request-most : (fit : Bool) (k n : ℕ) (x : Message) (p : List ℕ) → fit && messageInRange All x (length p) ≡ true → length (requestOctets k n x p) ≤ 274
+request-most fit k n x p e = omega (arith, length-request k n x p, payload fit All x p e)

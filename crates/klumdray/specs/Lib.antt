@@ -1,5 +1,6 @@
 pub mod Numbers
 pub mod Block
+pub mod Channels
 pub mod Traces
 pub mod Decoding
 pub mod Stages

@@ -22,6 +22,13 @@ use Rattle.tp1.specs.Layout.{tp1Octets}
 use Rattle.tp1.specs.Reading.{readTp1, payloadIn}
 use Rattle.tp1.specs.declared.Tp1Answer.the-variants.{Frame, Refused}
 use Rattle.tp1.specs.declared.Tp1Answer.{Tp1Answer}
+use Rattle.tunnelling.specs.Layout.{requestOctets, acknowledgementOctets}
+use Rattle.tunnelling.specs.Reading.{readRequest, requestMessage, readAcknowledgement}
+use Rattle.tunnelling.specs.declared.Acknowledgement.{Acknowledgement}
+use Rattle.tunnelling.specs.declared.AcknowledgementAnswer.the-variants.{Frame as Acknowledged, Refused as Unacknowledged}
+use Rattle.tunnelling.specs.declared.AcknowledgementAnswer.{AcknowledgementAnswer}
+use Rattle.tunnelling.specs.declared.RequestAnswer.the-variants.{Frame as Request-is, Refused as Request-not}
+use Rattle.tunnelling.specs.declared.RequestAnswer.{RequestAnswer}
 use Rattle.frame.specs.declared.Written.the-variants.{Put, Refused as Unwritten}
 use Rattle.cemi.specs.Reading.{readCemi, payloadIn as cemiPayload}
 use Rattle.cemi.specs.declared.CemiAnswer.the-variants.{Frame as Message-is, Refused as Message-not}
@@ -61,11 +68,31 @@ cemiAnswered s = cemiNumber (readCemi All s) (length (cemiPayload (readCemi All 
 abbrev pub routingAnswered : List ℕ → ℕ
 routingAnswered s = cemiNumber (readRouting s) (length (routedPayload (readRouting s) s))
 
+-- a tunnelling request's: that of its message. Channel and counter stand in the datagram itself
+abbrev pub messageAnswer : RequestAnswer → CemiAnswer
+messageAnswer (Request-is x) = Message-is (x .message)
+messageAnswer (Request-not r) = Message-not r
+
+abbrev pub requestPayload : RequestAnswer → List ℕ → List ℕ
+requestPayload a s = cemiPayload (messageAnswer a) (requestMessage a s)
+
+abbrev pub requestAnswered : List ℕ → ℕ
+requestAnswered s = cemiNumber (messageAnswer (readRequest s)) (length (requestPayload (readRequest s) s))
+
+-- an acknowledgement's: bits 8 to 15 the channel, 16 to 23 the counter, 24 to 31 the status
+abbrev pub acknowledgedNumber : AcknowledgementAnswer → ℕ
+acknowledgedNumber (Acknowledged a) = a .channel * 2 ^ 8 + a .counter * 2 ^ 16 + a .status * 2 ^ 24
+acknowledgedNumber (Unacknowledged r) = number r
+
+abbrev pub acknowledgementAnswered : List ℕ → ℕ
+acknowledgementAnswered s = acknowledgedNumber (readAcknowledgement s)
+
 -- "extended 0, 1   first_sending 0, 1   .. group 0, 1"
 unfoldable pub areFlags : ℕ → ℕ → ℕ → Bool
 areFlags extended first group = ltb extended 2 && ltb first 2 && ltb group 2
 
--- "priority 0 to 3   .. count 0 to 7" fit one octet: the inner writer, which takes no more, tests the ranges
+-- "priority 0 to 3   .. count 0 to 7" fit one octet: the inner writer, which takes no more, tests the ranges. So do a request's "channel,
+-- counter 0 to 255"
 unfoldable pub areOctets : ℕ → ℕ → Bool
 areOctets priority count = ltb priority 256 && ltb count 256
 
@@ -95,6 +122,13 @@ meaningFrom extended first priority source group destination count = record {
 abbrev pub messageFrom : ℕ → ℕ → Meaning → Message
 messageFrom code error m = record { code = code; error = eqb error 1; meaning = m }
 
+-- "channel, counter, status 0 to 255"
+unfoldable pub areConnected : ℕ → ℕ → ℕ → Bool
+areConnected channel counter status = ltb channel 256 && ltb counter 256 && ltb status 256
+
+abbrev pub acknowledgementFrom : ℕ → ℕ → ℕ → Acknowledgement
+acknowledgementFrom channel counter status = record { channel = channel; counter = counter; status = status }
+
 -- a writer's answer: bits 0 to 7 the refusal's number or 0, bits 8 on the octets written
 abbrev pub writtenNumber : Written → ℕ
 writtenNumber (Put n) = n * 2 ^ 8
@@ -114,3 +148,9 @@ WroteCemi fit x payload room answer after = WroteNumber (fit && messageInRange A
 
 abbrev pub WroteRouting : Bool → Message → List ℕ → List ℕ → ℕ → List ℕ → Type 0
 WroteRouting fit x payload room answer after = WroteNumber (fit && messageInRange IndicationOnly x (length payload)) (routingOctets x payload) room answer after
+
+abbrev pub WroteRequest : Bool → ℕ → ℕ → Message → List ℕ → List ℕ → ℕ → List ℕ → Type 0
+WroteRequest fit channel counter x payload room answer after = WroteNumber (fit && messageInRange All x (length payload)) (requestOctets channel counter x payload) room answer after
+
+abbrev pub WroteAcknowledgement : Bool → Acknowledgement → List ℕ → ℕ → List ℕ → Type 0
+WroteAcknowledgement fit a room answer after = WroteNumber fit (acknowledgementOctets a) room answer after

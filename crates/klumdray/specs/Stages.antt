@@ -1,13 +1,16 @@
 -- The lent block and the numbers in stages: for the contracts of private functions. No public contract rests on these definitions.
-use Prim.Native.Nat.{ℕ, _+_, _%_, _^_, _<_}
+use Prim.Native.Nat.{ℕ, zero, suc, _+_, _*_, _%_, _^_, _<_}
 use mathlib.Core.List.{List, [], _∷_}
 use mathlib.Core.Bool.{cond}
 use lib.ListN.{length}
 use lib.Dec.{ltb, leb, eqb}
+use Rattle.octets.specs.Octets.{octetAt}
 use Rattle.octets.specs.Word.{high, low, wordAt}
 use Rattle.octets.specs.Room.{laid}
 use Rattle.frame.specs.declared.Written.{Written}
 use Rattle.frame.specs.declared.Written.the-variants.{Put, Refused as Unwritten}
+use Rattle.channels.specs.declared.Channel.{Channel}
+use Rattle.klumdray.specs.Channels.{channelSize, openPlace, receivePlace, sendPlace}
 
 -- the side that the step inside is handed: 2, which is none, for every number that is none
 abbrev pub sideOrNone : ℕ → ℕ
@@ -22,6 +25,18 @@ keptIn block start = cond (leb (wordAt block start) 263) (wordAt block start) 0
 
 unfoldable pub rememberedAt : ℕ → List ℕ → List ℕ → List ℕ
 rememberedAt start s block = laid s (start + 2) (laid (high (length s % 65536) ∷ low (length s % 65536) ∷ []) start block)
+
+-- the number of a channel that the call inside is handed: 0, which is no channel's, for every number that is no octet
+abbrev pub channelOrNone : ℕ → ℕ
+channelOrNone n = cond (ltb n 256) n 0
+
+-- an octet of a channel's, and the channel of them; a number that is no channel's has none of the block's, and those that are missing are 0
+abbrev pub octetOf : List ℕ → ℕ → ℕ → ℕ
+octetOf block zero place = 0
+octetOf block (suc k) place = octetAt block (channelSize * k + place)
+
+abbrev pub heldChannel : List ℕ → ℕ → Channel
+heldChannel block n = record { opened = eqb (octetOf block n openPlace) 0x01; receive = octetOf block n receivePlace; send = octetOf block n sendPlace }
 
 -- a size that its number holds
 abbrev pub Sized : Written → Type 0

@@ -1,5 +1,6 @@
 // The surface for C and Rust: numbers and byte slices only. include/klumdray.h documents each call.
 mod block;
+mod counters;
 mod numbers;
 mod traces;
 
@@ -9,7 +10,8 @@ ghost use Rattle.octets.specs.Check.{checkOctet};
 ghost use Rattle.site.specs.Stores.{stores};
 ghost use Rattle.tracer.specs.Query.{queryOf};
 ghost use Rattle.klumdray.specs.Block.{couplerSet, lentRight, SteppedThrough};
-ghost use Rattle.klumdray.specs.Numbers.{tp1Answered, cemiAnswered, routingAnswered, areNumbers, areMarks, meaningFrom, messageFrom, WroteTp1, WroteCemi, WroteRouting};
+ghost use Rattle.klumdray.specs.Channels.{TookThrough, SentThrough, ConfirmedThrough};
+ghost use Rattle.klumdray.specs.Numbers.{tp1Answered, cemiAnswered, routingAnswered, requestAnswered, acknowledgementAnswered, areNumbers, areMarks, areOctets, areConnected, meaningFrom, messageFrom, acknowledgementFrom, WroteTp1, WroteCemi, WroteRouting, WroteRequest, WroteAcknowledgement};
 ghost use Rattle.klumdray.specs.Traces.{explanationNumber, TracedThrough, whyThrough};
 use cemi::Codes;
 
@@ -152,6 +154,160 @@ pub extern "C" fn klumdray_routing_write(
         let message = numbers::message_from(code, error, meaning);
         let written = routing::write(message, payload, room);
         numbers::of_written(written)
+    } else {
+        14
+    }
+}
+
+#[no_mangle]
+pub extern "C" fn klumdray_tunnelling_request_read(octets: &[u8]) -> u64
+    ensures { λ r. ⌜ r ≡ requestAnswered (now (octets .entry)) ⌝ }
+{
+    let answer = tunnelling::read_request(octets);
+    let message = tunnelling::message(answer, octets);
+    let read = numbers::message_answer(answer);
+    let payload = cemi::payload(read, message);
+    numbers::of_cemi(read, payload.len())
+}
+
+#[no_mangle]
+pub extern "C" fn klumdray_tunnelling_request_write(
+    channel: u32,
+    counter: u32,
+    code: u32,
+    error: u32,
+    extended: u32,
+    first: u32,
+    priority: u32,
+    source: u32,
+    group: u32,
+    destination: u32,
+    count: u32,
+    payload: &[u8],
+    room: &mut [u8],
+) -> u64
+    ensures { λ r. ⌜ WroteRequest (areNumbers extended first priority source group destination count && areMarks code error && areOctets channel counter) channel counter (messageFrom code error (meaningFrom extended first priority source group destination count)) (now (payload .entry)) (now (room .entry)) r (now (room .exit)) ⌝ }
+{
+    let flags = numbers::are_flags(extended, first, group);
+    let octets = numbers::are_octets(priority, count);
+    let words = numbers::are_words(source, destination);
+    let marks = numbers::are_marks(code, error);
+    let connected = numbers::are_octets(channel, counter);
+    if flags & octets & words & marks & connected {
+        let meaning = numbers::meaning_from(
+            extended,
+            first,
+            priority,
+            source,
+            group,
+            destination,
+            count,
+        );
+        let message = numbers::message_from(code, error, meaning);
+        let written = numbers::write_request(channel, counter, message, payload, room);
+        numbers::of_written(written)
+    } else {
+        14
+    }
+}
+
+#[no_mangle]
+pub extern "C" fn klumdray_tunnelling_ack_read(octets: &[u8]) -> u32
+    ensures { λ r. ⌜ r ≡ acknowledgementAnswered (now (octets .entry)) ⌝ }
+{
+    let answer = tunnelling::read_acknowledgement(octets);
+    numbers::of_acknowledged(answer)
+}
+
+#[no_mangle]
+pub extern "C" fn klumdray_tunnelling_ack_write(
+    channel: u32,
+    counter: u32,
+    status: u32,
+    room: &mut [u8],
+) -> u64
+    ensures { λ r. ⌜ WroteAcknowledgement (areConnected channel counter status) (acknowledgementFrom channel counter status) (now (room .entry)) r (now (room .exit)) ⌝ }
+{
+    if numbers::are_connected(channel, counter, status) {
+        let acknowledgement = numbers::acknowledgement_from(channel, counter, status);
+        let written = tunnelling::write_acknowledgement(acknowledgement, room);
+        numbers::of_written(written)
+    } else {
+        14
+    }
+}
+
+#[no_mangle]
+pub extern "C" fn klumdray_tunnelling_receive(
+    channels: &mut [u8],
+    octets: &[u8],
+    room: &mut [u8],
+) -> u64
+    ensures { λ r. ⌜ TookThrough (now (channels .entry)) (now (octets .entry)) (now (room .entry)) r (now (channels .exit)) (now (room .exit)) ⌝ }
+{
+    if counters::are_channels(channels) {
+        let number = octets::octet(octets, 7);
+        let channel = counters::channel_in(channels, number);
+        let answer = exchange::receive_on(channel, octets, room);
+        counters::raise_received(answer, channel, number, channels);
+        let message = exchange::message(answer, octets);
+        counters::of_received(answer, message)
+    } else {
+        14
+    }
+}
+
+#[no_mangle]
+pub extern "C" fn klumdray_tunnelling_send(
+    channels: &[u8],
+    channel: u32,
+    code: u32,
+    error: u32,
+    extended: u32,
+    first: u32,
+    priority: u32,
+    source: u32,
+    group: u32,
+    destination: u32,
+    count: u32,
+    payload: &[u8],
+    room: &mut [u8],
+) -> u64
+    ensures { λ r. ⌜ SentThrough (areNumbers extended first priority source group destination count && areMarks code error) (now (channels .entry)) channel (messageFrom code error (meaningFrom extended first priority source group destination count)) (now (payload .entry)) (now (room .entry)) r (now (room .exit)) ⌝ }
+{
+    let right = counters::are_channels(channels);
+    let flags = numbers::are_flags(extended, first, group);
+    let octets = numbers::are_octets(priority, count);
+    let words = numbers::are_words(source, destination);
+    let marks = numbers::are_marks(code, error);
+    if right & (flags & octets & words & marks) {
+        let meaning = numbers::meaning_from(
+            extended,
+            first,
+            priority,
+            source,
+            group,
+            destination,
+            count,
+        );
+        let message = numbers::message_from(code, error, meaning);
+        let written = counters::send(channels, channel, message, payload, room);
+        numbers::of_written(written)
+    } else {
+        14
+    }
+}
+
+#[no_mangle]
+pub extern "C" fn klumdray_tunnelling_confirm(channels: &mut [u8], octets: &[u8]) -> u32
+    ensures { λ r. ⌜ ConfirmedThrough (now (channels .entry)) (now (octets .entry)) r (now (channels .exit)) ⌝ }
+{
+    if counters::are_channels(channels) {
+        let number = octets::octet(octets, 7);
+        let channel = counters::channel_in(channels, number);
+        let answer = exchange::confirm_on(channel, octets);
+        counters::raise_confirmed(answer, channel, number, channels);
+        counters::of_confirmed(answer)
     } else {
         14
     }

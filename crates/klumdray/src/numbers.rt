@@ -1,13 +1,21 @@
 // Answers as the numbers that cross the surface, and a caller's numbers as a meaning.
 ghost use mathlib.Core.Path.{_≡_};
 ghost use Prim.Native.Nat.{_%_, _<_};
-ghost use Rattle.klumdray.specs.Numbers.{flagsOf, meaningNumber, tp1Number, codeNumber, messageNumber, cemiNumber, areFlags, areOctets, areWords, areMarks, meaningFrom, messageFrom, writtenNumber};
+ghost use lib.ListN.{length};
+ghost use Rattle.cemi.specs.Writing.{messageInRange};
+ghost use Rattle.cemi.specs.declared.Codes.the-variants.{All};
+ghost use Rattle.frame.specs.Writing.{Wrote};
+ghost use Rattle.tunnelling.specs.Layout.{requestOctets};
+ghost use Rattle.klumdray.specs.Numbers.{flagsOf, meaningNumber, tp1Number, codeNumber, messageNumber, cemiNumber, areFlags, areOctets, areWords, areMarks, areConnected, meaningFrom, messageFrom, acknowledgementFrom, messageAnswer, acknowledgedNumber, writtenNumber};
 ghost use Rattle.klumdray.specs.Stages.{Sized};
 use cemi::CemiAnswer;
 use cemi::Message;
 use frame::Meaning;
 use frame::Written;
 use tp1::Tp1Answer;
+use tunnelling::Acknowledgement;
+use tunnelling::AcknowledgementAnswer;
+use tunnelling::RequestAnswer;
 
 fn flags_of(meaning: Meaning) -> u8
     ensures { λ r. ⌜ r ≡ flagsOf meaning ⌝ }
@@ -70,6 +78,32 @@ pub(crate) fn of_cemi(answer: CemiAnswer, payload: usize) -> u64
     }
 }
 
+// What a tunnelling request's message is read as.
+pub(crate) fn message_answer(answer: RequestAnswer) -> CemiAnswer
+    ensures { λ r. ⌜ r ≡ messageAnswer answer ⌝ }
+{
+    match answer {
+        RequestAnswer::Frame(request) => {
+            let message = request.message;
+            CemiAnswer::Frame(message)
+        }
+        RequestAnswer::Refused(refusal) => CemiAnswer::Refused(refusal),
+    }
+}
+
+pub(crate) fn of_acknowledged(answer: AcknowledgementAnswer) -> u32
+    ensures { λ r. ⌜ r ≡ acknowledgedNumber answer ⌝ }
+{
+    match answer {
+        AcknowledgementAnswer::Frame(acknowledgement) => {
+            acknowledgement.channel as u32 * 256
+                + acknowledgement.counter as u32 * 65536
+                + acknowledgement.status as u32 * 16777216
+        }
+        AcknowledgementAnswer::Refused(refusal) => refusal.number() as u32,
+    }
+}
+
 // A number in so many bits that the calls inside take: itself, where it fits.
 pub(crate) fn octet_of(number: u32) -> u8
     ensures { λ r. ⌜ r ≡ number % 256 ⌝ }
@@ -107,6 +141,12 @@ pub(crate) fn are_marks(code: u32, error: u32) -> bool
     (code < 256) & (error < 2)
 }
 
+pub(crate) fn are_connected(channel: u32, counter: u32, status: u32) -> bool
+    ensures { λ r. ⌜ r ≡ areConnected channel counter status ⌝ }
+{
+    (channel < 256) & (counter < 256) & (status < 256)
+}
+
 pub(crate) fn meaning_from(
     extended: u32,
     first: u32,
@@ -136,6 +176,31 @@ pub(crate) fn message_from(code: u32, error: u32, meaning: Meaning) -> Message
         code: octet_of(code),
         error: error == 1,
         meaning,
+    }
+}
+
+// Writes a request, given the channel and the counter in the caller's bits.
+pub(crate) fn write_request(
+    channel: u32,
+    counter: u32,
+    message: Message,
+    payload: &[u8],
+    room: &mut [u8],
+) -> Written
+    ensures { λ r. ⌜ Wrote (messageInRange All message (length (now (payload .entry)))) (requestOctets (channel % 256) (counter % 256) message (now (payload .entry))) (now (room .entry)) r (now (room .exit)) ⌝ }
+{
+    let number = octet_of(channel);
+    let counted = octet_of(counter);
+    tunnelling::write_request(number, counted, message, payload, room)
+}
+
+pub(crate) fn acknowledgement_from(channel: u32, counter: u32, status: u32) -> Acknowledgement
+    ensures { λ r. ⌜ r ≡ acknowledgementFrom (channel % 256) (counter % 256) (status % 256) ⌝ }
+{
+    Acknowledgement {
+        channel: octet_of(channel),
+        counter: octet_of(counter),
+        status: octet_of(status),
     }
 }
 
