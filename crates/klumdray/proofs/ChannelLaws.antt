@@ -50,7 +50,7 @@ pub with-none : (block : List ℕ) (n place octet : ℕ) → (n ≡ 0 → ⊥) �
 with-none block n place octet h k = sym (with-place block n place octet h) ∙ set-out block (channelSize * (n - 1) + place) octet k
 
 -- a block of some channels has the three octets of the first
-in-three : (P : List ℕ → Type 0) (n : ℕ) (block : List ℕ) → length block ≡ channelSize * suc n → ((a b d : ℕ) (l : List ℕ) → length l ≡ channelSize * n → P (a ∷ b ∷ d ∷ l)) → P block
+pub in-three : (P : List ℕ → Type 0) (n : ℕ) (block : List ℕ) → length block ≡ channelSize * suc n → ((a b d : ℕ) (l : List ℕ) → length l ≡ channelSize * n → P (a ∷ b ∷ d ∷ l)) → P block
 in-three P n [] e f = absurd (omega arith)
 in-three P n (a ∷ []) e f = absurd (omega arith)
 in-three P n (a ∷ b ∷ []) e f = absurd (omega arith)
@@ -76,7 +76,7 @@ held-at : (n k : ℕ) (block : List ℕ) → length block ≡ channelSize * n �
 held-at n zero block e = refl
 held-at n (suc k) block e = held-from n k block e
 
-length-from : (n : ℕ) (block : List ℕ) → length (channelsFrom n block) ≡ n
+pub length-from : (n : ℕ) (block : List ℕ) → length (channelsFrom n block) ≡ n
 length-from zero block = refl
 length-from (suc n) block = ap suc (length-from n (drop channelSize block))
 

@@ -1,12 +1,14 @@
 pub mod Surface
 pub mod BlockLaws
 pub mod ChannelLaws
+pub mod ChannelsInside
 pub mod Bits
 pub mod Telling
 pub mod ReaderNumbers
 pub mod WriterNumbers
 pub mod StepNumbers
 pub mod TracerNumbers
+pub mod TunnellingNumbers
 pub mod ListInRoom
 pub mod Parts
 pub mod Remembered

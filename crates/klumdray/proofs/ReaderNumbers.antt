@@ -3,7 +3,7 @@
 use Prim.Native.Nat.{ℕ, _^_, _≤_, _<_}
 use mathlib.Core.Bool.{Bool, true, false, cond, _||_}
 use mathlib.Core.List.{List, [], _∷_}
-use mathlib.Core.Path.{_∙_, _≡_, refl, sym}
+use mathlib.Core.Path.{_∙_, _≡_, refl, sym, ap}
 use native.Mathlib.Omega.{arith}
 use lib.Dec.{eqb}
 use lib.ListN.{length, drop, getD}
@@ -30,6 +30,7 @@ use Rattle.klumdray.proofs.Telling.{number-alone, tells-refused, tells-
 use Rattle.klumdray.specs.Decoding.{bits, numberIn, meaningValuesIn, payloadLengthIn, codeNumberIn, messageCodeIn, errorMarkIn, tp1From, cemiFrom, TellsReading}
 use Rattle.klumdray.specs.Numbers.{flagsOf, meaningNumber, tp1Number, codeNumber, messageNumber, cemiNumber, tp1Answered, cemiAnswered, routingAnswered}
 use Rattle.octets.proofs.Octets.{octets-drop}
+use Rattle.octets.proofs.Truth.{by-cases, never}
 use Rattle.octets.specs.Octets.{Octets, weigh}
 use Rattle.routing.proofs.RoundTrip.{read-datagram}
 use Rattle.routing.specs.Reading.{readRouting, routedPayload}
@@ -129,6 +130,18 @@ code-back All c e = go (eqb c 0x11) (eqb c 0x2E) (eqb c 0x29) refl refl refl e
     go false false false a b d t = let z : _≡_ {A = ℕ} 0 1 = cc in absurd (omega arith)
 code-back IndicationOnly c e = rw (eqb-true c 0x29 e)
 
+unread-none : (codes : Codes) → isRead codes 0 ≡ false
+unread-none All = refl
+unread-none IndicationOnly = refl
+
+code-number-some : (codes : Codes) (c : ℕ) → isRead codes c ≡ true → eqb (codeNumber c) 0 ≡ false
+code-number-some codes c e =
+    by-cases (eqb (codeNumber c) 0)
+    (λ z.
+    let none : c ≡ 0 = sym (code-back codes c e) ∙ ap (λ (i : ℕ). getD (0x00 ∷ 0x11 ∷ 0x2E ∷ 0x29 ∷ []) i 0) (eqb-true (codeNumber c) 0 z) in
+    never (sym e ∙ ap (isRead codes) none ∙ unread-none codes))
+    (λ z. z)
+
 module _ (codes : Codes) (x : Message) (p : List ℕ) (v : ValidMessage codes x p) where
   rest : List Field
   rest = 2 holding codeNumber (x .code) ∷ 1 holding weigh (x .error) 1 ∷ []
@@ -156,17 +169,22 @@ module _ (codes : Codes) (x : Message) (p : List ℕ) (v : ValidMessage codes x 
   unfolding fields
   message-reads = reads (x .meaning) p (v .valid) rest (messageNumber x (length p)) rest-fits message-packed
 
-  code-read : messageCodeIn (messageNumber x (length p)) ≡ x .code
+  code-numbered : codeNumberIn (messageNumber x (length p)) ≡ codeNumber (x .code)
   unfolding fields rest readerFields
-  code-read =
-      let e : codeNumberIn (messageNumber x (length p)) ≡ codeNumber (x .code) = read-back fields (messageNumber x (length p)) fit message-packed 9 (omega arith) in
-      rw e (code-back codes (x .code) (message-ranges codes x (length p) (v .ranges) .code))
+  code-numbered = read-back fields (messageNumber x (length p)) fit message-packed 9 (omega arith)
+
+  code-read : messageCodeIn (messageNumber x (length p)) ≡ x .code
+  code-read = rw code-numbered (code-back codes (x .code) (message-ranges codes x (length p) (v .ranges) .code))
+
+  -- a message is never told as none
+  pub code-some : eqb (codeNumberIn (messageNumber x (length p))) 0 ≡ false
+  code-some = rw code-numbered (code-number-some codes (x .code) (message-ranges codes x (length p) (v .ranges) .code))
 
   mark-read : errorMarkIn (messageNumber x (length p)) ≡ weigh (x .error) 1
   unfolding fields rest readerFields
   mark-read = read-back fields (messageNumber x (length p)) fit message-packed 10 (omega arith)
 
-cemi-answer : (codes : Codes) (a : CemiAnswer) (p : List ℕ) → ((x : Message) → a ≡ Message-is x → ValidMessage codes x p) → ((r : Refusal) → a ≡ Message-not r → p ≡ [])
+pub cemi-answer : (codes : Codes) (a : CemiAnswer) (p : List ℕ) → ((x : Message) → a ≡ Message-is x → ValidMessage codes x p) → ((r : Refusal) → a ≡ Message-not r → p ≡ [])
     → TellsReading 59 cemiFrom (cemiNumber a (length p)) (cemiNumbered a) (λ r. a ≡ Message-not r) p
 cemi-answer codes (Message-is x) p v none =
     let ok = v x refl in

@@ -30,10 +30,11 @@ use Rattle.routing.proofs.LayoutLaws.{length-routing}
 use Rattle.routing.specs.Layout.{routingOctets}
 use Rattle.tp1.proofs.LayoutLaws.{octets-most}
 use Rattle.tp1.specs.Layout.{tp1Octets}
-use Rattle.tunnelling.proofs.LayoutLaws.{length-request}
-use Rattle.tunnelling.specs.Layout.{requestOctets}
+use Rattle.tunnelling.proofs.LayoutLaws.{length-request, length-acknowledgement}
+use Rattle.tunnelling.specs.Layout.{requestOctets, acknowledgementOctets}
+use Rattle.tunnelling.specs.declared.Acknowledgement.{Acknowledgement}
 
-written-answer : (w : Written) → ((n : ℕ) → w ≡ Put n → n ≤ 274) → Tells 64 writtenFrom (writtenNumber w) (writtenNumbered w) (λ r. w ≡ Refused r)
+pub written-answer : (w : Written) → ((n : ℕ) → w ≡ Put n → n ≤ 274) → Tells 64 writtenFrom (writtenNumber w) (writtenNumbered w) (λ r. w ≡ Refused r)
 written-answer (Put n) h =
     let fs : List Field = 8 holding 0 ∷ 56 holding n ∷ [] in
     let fit : Fit fs = (omega arith, (omega (arith, h n refl), tt)) in
@@ -83,3 +84,6 @@ module _ (fit : Bool) (codes : Codes) (x : Message) (p : List ℕ) (e : fit && m
 
 pub request-most : (fit : Bool) (k n : ℕ) (x : Message) (p : List ℕ) → fit && messageInRange All x (length p) ≡ true → length (requestOctets k n x p) ≤ 274
 request-most fit k n x p e = omega (arith, length-request k n x p, payload fit All x p e)
+
+pub acknowledgement-most : (a : Acknowledgement) → length (acknowledgementOctets a) ≤ 274
+acknowledgement-most a = omega (arith, length-acknowledgement a)

@@ -1,7 +1,7 @@
 -- The numbers that cross the surface, taken apart again: what the helpers at the end of include/klumdray.h work out, each under its name
 -- there. Beside them the whole answer, as document 01's number and values.
 use Prim.Native.Nat.{ℕ, _+_, _-_, _*_, _/_, _%_, _^_, _≤_, _<_}
-use mathlib.Core.Bool.{Bool, true, cond, _&&_}
+use mathlib.Core.Bool.{Bool, true, cond, not, _&&_}
 use mathlib.Core.List.{List, [], _∷_}
 use mathlib.Core.Logic.{_↔_}
 use mathlib.Core.Path.{_≡_}
@@ -9,6 +9,9 @@ use lib.Dec.{ltb, leb, eqb}
 use lib.ListN.{length, take, drop, getD}
 use Rattle.coupler.specs.Step.{acknowledgementNumber}
 use Rattle.coupler.specs.declared.Outcome.{Outcome}
+use Rattle.exchange.specs.Answers.{receivedNumbered}
+use Rattle.exchange.specs.declared.Received.the-variants.{Delivered, Refused as Unreceived}
+use Rattle.exchange.specs.declared.Received.{Received}
 use Rattle.frame.specs.Answers.{Numbered}
 use Rattle.frame.specs.Refusals.{number}
 use Rattle.frame.specs.declared.Refusal.{Refusal}
@@ -19,6 +22,9 @@ use Rattle.tracer.specs.Query.{onArrival}
 use Rattle.tracer.specs.declared.Query.{Query}
 use Rattle.tracer.specs.Listing.{isListed}
 use Rattle.tracer.specs.declared.Traced.{Traced}
+use Rattle.tunnelling.specs.Reading.{channelIn, counterIn}
+use Rattle.tunnelling.specs.declared.Request.{Request}
+use Rattle.klumdray.specs.Channels.{channelSize, openPlace, receivePlace, sendPlace}
 
 -- so many bits of a number from a bit on, the bit 0 being worth 1: a shift and a mask
 abbrev pub bits : ℕ → ℕ → ℕ → ℕ
@@ -68,6 +74,24 @@ messageCodeIn n = getD (0x00 ∷ 0x11 ∷ 0x2E ∷ 0x29 ∷ []) (codeNumberIn n)
 abbrev pub errorMarkIn : ℕ → ℕ
 errorMarkIn n = bits 58 1 n
 
+-- klumdray_delivered, klumdray_raised; klumdray_tunnelling_channel and klumdray_tunnelling_counter are `channelIn` and `counterIn` of the
+-- datagram
+abbrev pub deliveredIn : ℕ → Bool
+deliveredIn n = not (eqb (codeNumberIn n) 0)
+
+abbrev pub raisedIn : ℕ → ℕ
+raisedIn n = bits 8 1 n
+
+-- klumdray_ack_channel, klumdray_ack_counter, klumdray_ack_status
+abbrev pub ackChannelIn : ℕ → ℕ
+ackChannelIn n = bits 8 8 n
+
+abbrev pub ackCounterIn : ℕ → ℕ
+ackCounterIn n = bits 16 8 n
+
+abbrev pub ackStatusIn : ℕ → ℕ
+ackStatusIn n = bits 24 8 n
+
 -- klumdray_acknowledgement, klumdray_own, klumdray_forwarded
 abbrev pub acknowledgementIn : ℕ → ℕ
 acknowledgementIn n = bits 8 8 n
@@ -116,6 +140,23 @@ tp1From n = numberedBy n (meaningValuesIn n)
 abbrev pub cemiFrom : ℕ → Numbered
 cemiFrom n = numberedBy n (messageCodeIn n ∷ errorMarkIn n ∷ meaningValuesIn n)
 
+-- a request's channel and counter are the datagram's own
+abbrev pub requestValuesIn : List ℕ → ℕ → List ℕ
+requestValuesIn s n = channelIn s ∷ counterIn s ∷ messageCodeIn n ∷ errorMarkIn n ∷ meaningValuesIn n
+
+abbrev pub requestFrom : List ℕ → ℕ → Numbered
+requestFrom s n = numberedBy n (requestValuesIn s n)
+
+-- acknowledged again, nothing is delivered
+abbrev pub receivedFrom : List ℕ → ℕ → Numbered
+receivedFrom s n = numberedBy n (cond (deliveredIn n) (requestValuesIn s n) [])
+
+abbrev pub acknowledgedFrom : ℕ → Numbered
+acknowledgedFrom n = numberedBy n (ackChannelIn n ∷ ackCounterIn n ∷ ackStatusIn n ∷ [])
+
+abbrev pub confirmedFrom : ℕ → Numbered
+confirmedFrom n = numberedBy n (raisedIn n ∷ [])
+
 abbrev pub writtenFrom : ℕ → Numbered
 writtenFrom n = numberedBy n (writtenIn n ∷ [])
 
@@ -162,13 +203,19 @@ pub record TellsReading (width : ℕ) (from : ℕ → Numbered) (answer : ℕ) (
   pub size : payloadLengthIn answer ≡ length payload
   pub some : numberIn answer ≡ 0 → 1 ≤ payloadLengthIn answer
 
+-- the answer to a request that arrives: also whether it is delivered, and the length of the payload that is
+pub record TellsTaking (s : List ℕ) (answer : ℕ) (a : Received) (payload : List ℕ) : Type 0 where
+  pub told : Tells 59 (receivedFrom s) answer (receivedNumbered a) (λ r. a ≡ Unreceived r)
+  pub size : payloadLengthIn answer ≡ length payload
+  pub delivers : deliveredIn answer ≡ true ↔ ((x : Request) × (a ≡ Delivered x))
+
 -- where parts of the caller's own octets begin, and how many octets they have
 
 -- klumdray_tp1_payload_start
 abbrev pub tp1PayloadStart : ℕ → ℕ
 tp1PayloadStart n = cond (eqb (extendedIn n) 0) 6 7
 
--- klumdray_cemi_payload_start and klumdray_routing_payload_start, of so many octets
+-- klumdray_cemi_payload_start, klumdray_routing_payload_start and klumdray_tunnelling_payload_start, of so many octets
 abbrev pub messagePayloadStart : ℕ → ℕ → ℕ
 messagePayloadStart n size = size - payloadLengthIn n
 
@@ -185,6 +232,16 @@ routingInformationStart = 8
 
 abbrev pub routingInformationLength : ℕ → ℕ → ℕ
 routingInformationLength n size = size - payloadLengthIn n - 15
+
+-- klumdray_tunnelling_message_start, klumdray_tunnelling_information_start, klumdray_tunnelling_information_length
+abbrev pub tunnellingMessageStart : ℕ
+tunnellingMessageStart = 10
+
+abbrev pub tunnellingInformationStart : ℕ
+tunnellingInformationStart = 12
+
+abbrev pub tunnellingInformationLength : ℕ → ℕ → ℕ
+tunnellingInformationLength n size = size - payloadLengthIn n - 19
 
 -- a part by where it starts and its size: it lies within the octets, at the very place where the inner call's part lies, and holds the same
 pub record LiesAt (s : List ℕ) (start size place : ℕ) (part : List ℕ) : Type 0 where
@@ -210,6 +267,24 @@ rememberedSize block side = cond (ltb 263 (wordAt block (rememberedPart side))) 
 
 abbrev pub rememberedStart : ℕ → ℕ
 rememberedStart side = rememberedPart side + 2
+
+-- klumdray_channel_open, klumdray_channel_receive, klumdray_channel_send: of a channel's number, in the block of channels
+abbrev pub channelPlace : ℕ → ℕ → ℕ
+channelPlace channel place = channelSize * (channel - 1) + place
+
+abbrev pub channelOpen : List ℕ → ℕ → Bool
+channelOpen block channel = eqb (octetAt block (channelPlace channel openPlace)) 0x01
+
+abbrev pub channelReceive : List ℕ → ℕ → ℕ
+channelReceive block channel = octetAt block (channelPlace channel receivePlace)
+
+abbrev pub channelSend : List ℕ → ℕ → ℕ
+channelSend block channel = octetAt block (channelPlace channel sendPlace)
+
+-- "A call changes at most one octet of it": the one at this place, and the block's size stays
+pub record ChangesAt (at : ℕ) (block block′ : List ℕ) : Type 0 where
+  pub size : length block′ ≡ length block
+  pub others : (place : ℕ) → (place ≡ at → ⊥) → octetAt block′ place ≡ octetAt block place
 
 -- klumdray_listed_line, klumdray_listed_count, klumdray_listed_crossed: of the listed line at a place, counted from 0, in a trace's room
 abbrev pub listedLine : List ℕ → ℕ → ℕ

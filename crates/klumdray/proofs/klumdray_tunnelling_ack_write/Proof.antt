@@ -1,16 +1,14 @@
 -- The inner writer behind the test whether the numbers fit: both arms are laws of `Surface`.
 use mathlib.Core.Path.{sym, _∙_}
-use native.Mathlib.Omega.{arith}
 use borrow.Author.Needs.{needs}
 use Rattle.klumdray.proofs.Surface.{sized, wrote-fit, unfit-alone, acknowledgement-kept}
-use Rattle.tunnelling.proofs.LayoutLaws.{length-acknowledgement}
+use Rattle.klumdray.proofs.WriterNumbers.{acknowledgement-most}
 use Rattle.klumdray.proofs.klumdray_tunnelling_ack_write.Statement.{statement}
 use Rattle.klumdray.proofs.klumdray_tunnelling_ack_write.Tie as tie
 
 of-written-requires : tie.Need-of-written-requires
 of-written-requires c κs =
-    let a = c .before .before .before .before .acknowledgement-from .result in
-    sized _ (c .before .before .write-acknowledgement .ensures) (λ e. omega (arith, length-acknowledgement a))
+    sized _ (c .before .before .write-acknowledgement .ensures) (λ e. acknowledgement-most (c .before .before .before .before .acknowledgement-from .result))
 
 returns : tie.Need-returns
 returns c =
