@@ -131,7 +131,7 @@ unfolding sentBy
 closed-sent true c octets room e = rw e
 closed-sent false c octets room e = refl
 
-sent-put : (ranged : Bool) (c : Channel) (octets : List ℕ) (room k : ℕ) → sentBy ranged c octets room ≡ Put k → (ranged ≡ true) × (length octets ≡ k)
+pub sent-put : (ranged : Bool) (c : Channel) (octets : List ℕ) (room k : ℕ) → sentBy ranged c octets room ≡ Put k → (ranged ≡ true) × (length octets ≡ k)
 unfolding sentBy
 sent-put ranged c octets room k e =
     let w = answer-iff Refused (λ q r. unwritten-one) (sendTests ranged c octets room) (Put (length octets)) (Put k) (λ r. put-refused) .0 e in

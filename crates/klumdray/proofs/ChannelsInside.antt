@@ -87,7 +87,7 @@ module _ {block s room : List ℕ} {answer : ℕ} {block′ room′ : List ℕ} 
     abbrev taken : Received
     taken = answered (receiving s (length room)) (channelsIn block)
 
-    taken-through : receivedThrough block s (length room) ≡ taken
+    pub taken-through : receivedThrough block s (length room) ≡ taken
     unfolding receivedThrough
     taken-through = rw right
 
@@ -123,7 +123,7 @@ module _ {block s : List ℕ} {answer : ℕ} {block′ : List ℕ} (w : Confirme
     abbrev settled : Confirmed
     settled = answered (confirming s) (channelsIn block)
 
-    settled-through : confirmedThrough block s ≡ settled
+    pub settled-through : confirmedThrough block s ≡ settled
     unfolding confirmedThrough
     settled-through = rw right
 

@@ -9,6 +9,7 @@ pub mod WriterNumbers
 pub mod StepNumbers
 pub mod TracerNumbers
 pub mod TunnellingNumbers
+pub mod Counted
 pub mod ListInRoom
 pub mod Parts
 pub mod Remembered

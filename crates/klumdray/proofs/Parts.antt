@@ -17,8 +17,9 @@ use Rattle.frame.proofs.Valid.{ranges-of}
 use Rattle.frame.specs.Answers.{Numbered, meaningValues}
 use Rattle.klumdray.proofs.ReaderNumbers.{tp1-tells, cemi-tells, routing-tells}
 use Rattle.klumdray.proofs.Telling.{accepted-values}
-use Rattle.klumdray.specs.Decoding.{numberIn, extendedIn, payloadLengthIn, meaningValuesIn, tp1PayloadStart, messagePayloadStart, cemiInformationStart, cemiInformationLength, routingInformationStart, routingInformationLength, LiesAt, MessageParts}
-use Rattle.klumdray.specs.Numbers.{tp1Answered, cemiAnswered, routingAnswered}
+use Rattle.klumdray.proofs.TunnellingNumbers.{request-tells}
+use Rattle.klumdray.specs.Decoding.{numberIn, extendedIn, payloadLengthIn, meaningValuesIn, tp1PayloadStart, messagePayloadStart, cemiInformationStart, cemiInformationLength, routingInformationStart, routingInformationLength, tunnellingMessageStart, tunnellingInformationStart, tunnellingInformationLength, LiesAt, MessageParts}
+use Rattle.klumdray.specs.Numbers.{tp1Answered, cemiAnswered, routingAnswered, messageAnswer, requestPayload, requestAnswered}
 use Rattle.octets.proofs.Octets.{octets-drop}
 use Rattle.octets.specs.Octets.{Octets, weigh}
 use Rattle.routing.proofs.RoundTrip.{read-datagram}
@@ -30,6 +31,10 @@ use Rattle.tp1.specs.Layout.{headOf}
 use Rattle.tp1.specs.Reading.{readTp1, payloadIn, payloadAt}
 use Rattle.tp1.specs.declared.Tp1Answer.{Tp1Answer}
 use Rattle.tp1.specs.declared.Tp1Answer.the-variants.{Frame, Refused}
+use Rattle.tunnelling.proofs.RoundTrip.{read-connected}
+use Rattle.tunnelling.specs.Reading.{message, readRequest, requestMessage, requestMessageAt}
+use Rattle.tunnelling.specs.declared.RequestAnswer.the-variants.{Frame as Request-is, Refused as Request-not}
+use Rattle.tunnelling.specs.declared.RequestAnswer.{RequestAnswer}
 use Rattle.cemi.proofs.RoundTrip.{read-laid as cemi-laid}
 use Rattle.cemi.specs.Reading.{payloadIn as cemiPayload, payloadAt as cemiPayloadAt}
 use Rattle.cemi.specs.declared.CemiAnswer.the-variants.{Frame as Message-is, Refused as Message-not}
@@ -109,12 +114,12 @@ module _ (s : List ℕ) (o : Octets s) where
           }
       go (Message-not r) e = absurd (cemi-tells s o .told .accepted .0 z r e)
 
-  -- a datagram's message starts behind its six octets
-  behind : (start size place : ℕ) (part : List ℕ) → 6 ≤ length s → LiesAt (drop 6 s) start size place part → LiesAt s (6 + start) size (6 + place) part
-  behind start size place part h x = record {
-    within = omega (arith, x .within, length-drop 6 s);
-    at = ap (λ (i : ℕ). 6 + i) (x .at);
-    holds = rw (← drop-drop start 6 s) (x .holds);
+  -- a datagram's message starts behind its head of n octets
+  behind : (n start size place : ℕ) (part : List ℕ) → n ≤ length s → LiesAt (drop n s) start size place part → LiesAt s (n + start) size (n + place) part
+  behind n start size place part h x = record {
+    within = omega (arith, x .within, length-drop n s);
+    at = ap (λ (i : ℕ). n + i) (x .at);
+    holds = rw (← drop-drop start n s) (x .holds);
   }
 
   pub routing-parts : numberIn (routingAnswered s) ≡ 0
@@ -136,9 +141,56 @@ module _ (s : List ℕ) (o : Octets s) where
           let h : 6 ≤ length s = omega arith in
           let start : messagePayloadStart (routingAnswered s) (length s) ≡ 6 + (9 + informationSize t) = omega arith in
           rw (le-leb 6 (length s) h) (record {
-            information = behind 2 _ _ _ h (information-lies IndicationOnly t x ot f (routingInformationLength (routingAnswered s) (length s)) (omega arith));
-            payload = rw start (behind (9 + informationSize t) _ _ _ h (payload-lies IndicationOnly t x ot f (9 + informationSize t) (payloadLengthIn (routingAnswered s)) refl k));
+            information = behind 6 2 _ _ _ h (information-lies IndicationOnly t x ot f (routingInformationLength (routingAnswered s) (length s)) (omega arith));
+            payload = rw start (behind 6 (9 + informationSize t) _ _ _ h (payload-lies IndicationOnly t x ot f (9 + informationSize t) (payloadLengthIn (routingAnswered s)) refl k));
             between = omega arith;
             end = omega arith;
           })
       go (Message-not r) e = absurd (routing-tells s o .told .accepted .0 z r e)
+
+  -- a request's message, and the message's parts
+  abbrev request : RequestAnswer
+  request = readRequest s
+
+  pub request-message : numberIn (requestAnswered s) ≡ 0 → LiesAt s tunnellingMessageStart (length s - tunnellingMessageStart) (requestMessageAt (readRequest s) s) (requestMessage (readRequest s) s)
+  request-message z = go request refl
+    where
+      go : (a : RequestAnswer) → readRequest s ≡ a → LiesAt s tunnellingMessageStart (length s - tunnellingMessageStart) (requestMessageAt a s) (requestMessage a s)
+      go (Request-is x) e =
+          let t : List ℕ = message s in
+          let n = size All t (x .message) (octets-drop 10 s o) (read-connected s x o e .1) in
+          let h : 10 ≤ length s = omega (arith, n, length-drop 10 s) in
+          record {
+            within = omega (arith, h);
+            at = rw (le-leb 10 (length s) h);
+            holds = take-all (length s - 10) t (omega (arith, length-drop 10 s));
+          }
+      go (Request-not r) e = absurd (request-tells s o .told .accepted .0 z r e)
+
+  pub request-parts : numberIn (requestAnswered s) ≡ 0
+      → MessageParts s (requestAnswered s) tunnellingInformationStart (tunnellingInformationLength (requestAnswered s) (length s))
+      (requestMessageAt (readRequest s) s + informationAt (messageAnswer (readRequest s)) (requestMessage (readRequest s) s)) (informationIn (messageAnswer (readRequest s)) (requestMessage (readRequest s) s))
+      (requestMessageAt (readRequest s) s + cemiPayloadAt (messageAnswer (readRequest s)) (requestMessage (readRequest s) s)) (requestPayload (readRequest s) s)
+  request-parts z = go request refl
+    where
+      go : (a : RequestAnswer) → readRequest s ≡ a
+          → MessageParts s (requestAnswered s) tunnellingInformationStart (tunnellingInformationLength (requestAnswered s) (length s))
+          (requestMessageAt a s + informationAt (messageAnswer a) (requestMessage a s)) (informationIn (messageAnswer a) (requestMessage a s))
+          (requestMessageAt a s + cemiPayloadAt (messageAnswer a) (requestMessage a s)) (requestPayload a s)
+      go (Request-is x) e =
+          let t : List ℕ = message s in
+          let q : List ℕ = cemiPayload (Message-is (x .message)) t in
+          let f = read-connected s x o e .1 in
+          let ot : Octets t = octets-drop 10 s o in
+          let k : payloadLengthIn (requestAnswered s) ≡ length q = request-tells s o .size ∙ ap (λ (a : RequestAnswer). length (requestPayload a s)) e in
+          let n : 9 + informationSize t + length q ≡ length t = size All t (x .message) ot f in
+          let m : length t ≡ length s - 10 = length-drop 10 s in
+          let h : 10 ≤ length s = omega arith in
+          let start : messagePayloadStart (requestAnswered s) (length s) ≡ 10 + (9 + informationSize t) = omega arith in
+          rw (le-leb 10 (length s) h) (record {
+            information = behind 10 2 _ _ _ h (information-lies All t (x .message) ot f (tunnellingInformationLength (requestAnswered s) (length s)) (omega arith));
+            payload = rw start (behind 10 (9 + informationSize t) _ _ _ h (payload-lies All t (x .message) ot f (9 + informationSize t) (payloadLengthIn (requestAnswered s)) refl k));
+            between = omega arith;
+            end = omega arith;
+          })
+      go (Request-not r) e = absurd (request-tells s o .told .accepted .0 z r e)

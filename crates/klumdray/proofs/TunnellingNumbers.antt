@@ -1,5 +1,4 @@
--- The numbers of tunnelling's calls taken apart again: each is what the call inside answers, and nothing is lost. Where a request is
--- delivered, its channel's receive counter is raised, and where an acknowledgement is taken its send counter; otherwise the block stays.
+-- The numbers of tunnelling's calls taken apart again: each is what the call inside answers, and nothing is lost.
 use Prim.Native.Nat.{ℕ, _+_, _*_, _^_, _≤_, _<_}
 use mathlib.Core.Bool.{Bool, true, false, cond, not, _&&_}
 use mathlib.Core.List.{List, [], _∷_}
@@ -12,6 +11,7 @@ use Rattle.cemi.proofs.Apart.{frame-refused as message-refused, frame-one as me
 use Rattle.cemi.proofs.RoundTrip.{read-laid as cemi-laid}
 use Rattle.cemi.specs.Answers.{messageValues, cemiNumbered}
 use Rattle.cemi.specs.Reading.{payloadIn as cemiPayload}
+use Rattle.cemi.specs.Writing.{messageInRange}
 use Rattle.cemi.specs.Valid.{ValidMessage}
 use Rattle.cemi.specs.declared.CemiAnswer.the-variants.{Frame as Message-is, Refused as Message-not}
 use Rattle.cemi.specs.declared.Codes.the-variants.{All}
@@ -26,25 +26,32 @@ use Rattle.exchange.specs.declared.Confirmed.the-variants.{Raised, Kept, Refuse
 use Rattle.exchange.specs.declared.Confirmed.{Confirmed}
 use Rattle.exchange.specs.declared.Received.the-variants.{Delivered, Again, Refused}
 use Rattle.exchange.specs.declared.Received.{Received}
+use Rattle.frame.proofs.Apart.{put-refused}
 use Rattle.frame.proofs.Numbers.{number-listed, number-some, refused-number}
 use Rattle.frame.specs.Answers.{Numbered, writtenNumbered}
 use Rattle.frame.specs.Refusals.{number}
+use Rattle.frame.specs.Writing.{roomAfter}
 use Rattle.frame.specs.declared.Refusal.{Refusal}
 use Rattle.frame.specs.declared.Written.the-variants.{Put, Refused as Unwritten}
 use Rattle.frame.specs.declared.Written.{Written}
 use Rattle.klumdray.proofs.Bits.{Field, _holding_, packed, Fit, read-back, below}
+use Rattle.klumdray.proofs.ChannelLaws.{sent-put}
 use Rattle.klumdray.proofs.ReaderNumbers.{code-some, cemi-answer}
 use Rattle.klumdray.proofs.Telling.{number-alone, tells-refused, tells-accepted, accepted-values}
-use Rattle.klumdray.specs.Channels.{channelsIn, areChannels, receivedNumber, deliveredPayload, confirmedNumber, receivedThrough, confirmedThrough, TookThrough, ConfirmedThrough}
-use Rattle.klumdray.specs.Decoding.{numberIn, codeNumberIn, messageCodeIn, errorMarkIn, meaningValuesIn, payloadLengthIn, deliveredIn, raisedIn, cemiFrom, requestFrom, acknowledgedFrom, confirmedFrom, receivedFrom, Tells, TellsReading, TellsTaking}
+use Rattle.klumdray.proofs.WriterNumbers.{written-answer, request-most}
+use Rattle.klumdray.specs.Channels.{channelsIn, areChannels, receivedNumber, deliveredPayload, confirmedNumber, receivedThrough, confirmedThrough, sentThrough, TookThrough, SentThrough, ConfirmedThrough}
+use Rattle.klumdray.specs.Decoding.{numberIn, writtenIn, writtenFrom, codeNumberIn, messageCodeIn, errorMarkIn, meaningValuesIn, payloadLengthIn, deliveredIn, raisedIn, cemiFrom, requestFrom, acknowledgedFrom, confirmedFrom, receivedFrom, Tells, TellsReading, TellsTaking}
 use Rattle.klumdray.specs.Numbers.{messageNumber, cemiNumber, messageAnswer, requestPayload, requestAnswered, acknowledgedNumber, acknowledgementAnswered}
 use Rattle.octets.proofs.Octets.{octets-drop}
 use Rattle.octets.proofs.Truth.{by-cases, never}
 use Rattle.octets.specs.Octets.{Octets}
+use Rattle.octets.specs.Room.{over}
 use Rattle.tunnelling.proofs.Apart.{request-differ, acknowledgement-differ}
+use Rattle.tunnelling.proofs.LayoutLaws.{length-request}
 use Rattle.tunnelling.proofs.Refusals.{request-accepted-iff, acknowledgement-accepted-iff}
 use Rattle.tunnelling.proofs.RoundTrip.{read-connected}
 use Rattle.tunnelling.specs.Answers.{requestNumbered, acknowledgementNumbered}
+use Rattle.tunnelling.specs.Layout.{requestOctets}
 use Rattle.tunnelling.specs.Reading.{channelIn, counterIn, message, readRequest, readAcknowledgement, requestIn}
 use Rattle.tunnelling.specs.declared.Acknowledgement.{Acknowledgement}
 use Rattle.tunnelling.specs.declared.AcknowledgementAnswer.the-variants.{Frame as Acknowledged, Refused as Unacknowledged}
@@ -170,7 +177,7 @@ received-answer s Again v = again-told s [] refl
 received-answer s (Refused q) v = refused-told s q [] refl
 
 -- delivered only from a block of the right size, by an open channel
-delivered-inside : (block s : List ℕ) (room : ℕ) (x : Request) → receivedThrough block s room ≡ Delivered x
+pub delivered-inside : (block s : List ℕ) (room : ℕ) (x : Request) → receivedThrough block s room ≡ Delivered x
     → (areChannels block ≡ true) × Arrives (channelAt (channelsIn block) (channelIn s)) s room x
 unfolding receivedThrough
 delivered-inside block s room x e =
@@ -182,6 +189,15 @@ module _ {block s room : List ℕ} {answer : ℕ} {block′ room′ : List ℕ} 
   pub took-told : TellsTaking s answer (receivedThrough block s (length room)) (deliveredPayload (receivedThrough block s (length room)) (deliveredMessage (receivedThrough block s (length room)) s))
   took-told = rw (w .answers) (received-answer s (receivedThrough block s (length room)) (λ x e. request-carries s x o (delivered-inside block s (length room) x e .1 .read)))
 
+  -- delivered: the answer is the reader's of the same datagram
+  pub took-reads : deliveredIn answer ≡ true → answer ≡ requestAnswered s
+  took-reads d =
+      let e = took-told .delivers .0 d in
+      let f : readRequest s ≡ Request-is (e .0) = delivered-inside block s (length room) (e .0) (e .1) .1 .read in
+      w .answers
+      ∙ ap (λ (a : Received). receivedNumber a (length (deliveredPayload a (deliveredMessage a s)))) (e .1)
+      ∙ sym (ap (λ (a : RequestAnswer). cemiNumber (messageAnswer a) (length (requestPayload a s))) f)
+
 -- what an acknowledgement that arrives is told as
 confirmed-answer : (a : Confirmed) → Tells 9 confirmedFrom (confirmedNumber a) (confirmedNumbered a) (λ r. a ≡ Unconfirmed r)
 confirmed-answer Raised = tells-accepted refl (λ r e. raised-refused (sym e)) (omega arith) refl
@@ -191,3 +207,36 @@ confirmed-answer (Unconfirmed q) = tells-refused q refl refl (λ r. unconfirmed-
 pub confirmed-told : {block s : List ℕ} {answer : ℕ} {block′ : List ℕ} → ConfirmedThrough block s answer block′
     → Tells 9 confirmedFrom answer (confirmedNumbered (confirmedThrough block s)) (λ r. confirmedThrough block s ≡ Unconfirmed r)
 confirmed-told {block} {s} w = rw (w .answers) (confirmed-answer (confirmedThrough block s))
+
+-- what a request that is sent is told as
+module _ {fit : Bool} {block : List ℕ} {n : ℕ} {x : Message} {p room : List ℕ} {answer : ℕ} {room′ : List ℕ} (w : SentThrough fit block n x p room answer room′) where
+  abbrev octets : List ℕ
+  octets = requestOctets n (channelAt (channelsIn block) n .send) x p
+
+  put-size : (k : ℕ) → sentThrough fit block n x p (length room) ≡ Put k → (length octets ≡ k) × (length octets ≤ 274)
+  put-size k e =
+      let f = sent-put (areChannels block && fit && messageInRange All x (length p)) (channelAt (channelsIn block) n) octets (length room) k e in
+      (f .1, request-most (areChannels block && fit) n (channelAt (channelsIn block) n .send) x p (f .0))
+
+  pub sent-told : Tells 64 writtenFrom answer (writtenNumbered (sentThrough fit block n x p (length room))) (λ r. sentThrough fit block n x p (length room) ≡ Unwritten r)
+  sent-told = rw (w .answers) (written-answer (sentThrough fit block n x p (length room)) (λ k e. let f = put-size k e in omega (arith, f .0, f .1)))
+
+  -- sent: the whole request, with the channel's send counter
+  pub sent-whole : numberIn answer ≡ 0 → (writtenIn answer ≡ length p + 19) × (room′ ≡ over (requestOctets n (channelAt (channelsIn block) n .send) x p) room)
+  sent-whole z = go (sentThrough fit block n x p (length room)) refl
+    where
+      go : (v : Written) → sentThrough fit block n x p (length room) ≡ v → (writtenIn answer ≡ length p + 19) × (room′ ≡ over octets room)
+      go (Put k) e =
+          let d : writtenFrom answer ≡ writtenNumbered (Put k) = sent-told .decoded ∙ ap writtenNumbered e in
+          let v : writtenIn answer ∷ [] ≡ k ∷ [] = sym (accepted-values answer (writtenIn answer ∷ []) z) ∙ ap (λ (i : Numbered). i .values) d in
+          let f : writtenIn answer ≡ k = ap (λ (l : List ℕ). getD l 0 0) v in
+          (omega (arith, f, put-size k e .0, length-request n (channelAt (channelsIn block) n .send) x p), w .left ∙ ap (λ (u : Written). roomAfter u octets room) e)
+      go (Unwritten r) e = absurd (sent-told .accepted .0 z r e)
+
+  -- refused: the room as it was
+  pub sent-leaves : (numberIn answer ≡ 0 → ⊥) → room′ ≡ room
+  sent-leaves h = go (sentThrough fit block n x p (length room)) refl
+    where
+      go : (v : Written) → sentThrough fit block n x p (length room) ≡ v → room′ ≡ room
+      go (Put k) e = absurd (h (sent-told .accepted .1 (λ r f. put-refused (sym f ∙ e))))
+      go (Unwritten r) e = w .left ∙ ap (λ (u : Written). roomAfter u octets room) e
