@@ -12,6 +12,7 @@ use Rattle.tracer.proofs.ListedBy.{traced-one}
 use Rattle.report.proofs.ReportLaws.{reported-one}
 use Rattle.klumdray.proofs.Surface.{wrote-number-one, traced-through-one}
 use Rattle.klumdray.proofs.BlockLaws.{stepped-one}
+use Rattle.klumdray.proofs.ChannelLaws.{took-through-one, sent-through-one, confirmed-through-one}
 use Rattle.promises.proofs.Stated.{Stated, StatedBy, SamePart}
 use Rattle.octets.proofs.octet.Kinds as octets-octet-kinds
 use Rattle.octets.proofs.octet.Reads as octets-octet-reads
@@ -169,6 +170,20 @@ use Rattle.klumdray.proofs.klumdray_trace.Kinds as klumdray-trace-kinds
 use Rattle.klumdray.proofs.klumdray_trace.Reads as klumdray-trace-reads
 use Rattle.klumdray.proofs.klumdray_why.Kinds as klumdray-why-kinds
 use Rattle.klumdray.proofs.klumdray_why.Reads as klumdray-why-reads
+use Rattle.klumdray.proofs.klumdray_tunnelling_request_read.Kinds as klumdray-tunnelling-request-read-kinds
+use Rattle.klumdray.proofs.klumdray_tunnelling_request_read.Reads as klumdray-tunnelling-request-read-reads
+use Rattle.klumdray.proofs.klumdray_tunnelling_request_write.Kinds as klumdray-tunnelling-request-write-kinds
+use Rattle.klumdray.proofs.klumdray_tunnelling_request_write.Reads as klumdray-tunnelling-request-write-reads
+use Rattle.klumdray.proofs.klumdray_tunnelling_ack_read.Kinds as klumdray-tunnelling-ack-read-kinds
+use Rattle.klumdray.proofs.klumdray_tunnelling_ack_read.Reads as klumdray-tunnelling-ack-read-reads
+use Rattle.klumdray.proofs.klumdray_tunnelling_ack_write.Kinds as klumdray-tunnelling-ack-write-kinds
+use Rattle.klumdray.proofs.klumdray_tunnelling_ack_write.Reads as klumdray-tunnelling-ack-write-reads
+use Rattle.klumdray.proofs.klumdray_tunnelling_receive.Kinds as klumdray-tunnelling-receive-kinds
+use Rattle.klumdray.proofs.klumdray_tunnelling_receive.Reads as klumdray-tunnelling-receive-reads
+use Rattle.klumdray.proofs.klumdray_tunnelling_send.Kinds as klumdray-tunnelling-send-kinds
+use Rattle.klumdray.proofs.klumdray_tunnelling_send.Reads as klumdray-tunnelling-send-reads
+use Rattle.klumdray.proofs.klumdray_tunnelling_confirm.Kinds as klumdray-tunnelling-confirm-kinds
+use Rattle.klumdray.proofs.klumdray_tunnelling_confirm.Reads as klumdray-tunnelling-confirm-reads
 
 -- octets
 
@@ -433,3 +448,24 @@ klumdray-trace-stated = record { determines = λ κs args r₁ r₂ w₁ w₂ x 
 
 pub klumdray-why-stated : Stated klumdray-why-kinds.ps klumdray-why-kinds.r klumdray-why-reads.Pre klumdray-why-reads.Post (λ κs a. klumdray-why-reads.ensures κs a tt)
 klumdray-why-stated = record { determines = λ κs args r₁ r₂ w₁ w₂ x y. (x ∙ sym y, refl); free = λ κs args. tt; whole = λ κs args r e w. refl }
+
+pub klumdray-tunnelling-request-read-stated : Stated klumdray-tunnelling-request-read-kinds.ps klumdray-tunnelling-request-read-kinds.r klumdray-tunnelling-request-read-reads.Pre klumdray-tunnelling-request-read-reads.Post (λ κs a. klumdray-tunnelling-request-read-reads.ensures κs a tt)
+klumdray-tunnelling-request-read-stated = record { determines = λ κs args r₁ r₂ w₁ w₂ x y. (x ∙ sym y, refl); free = λ κs args. tt; whole = λ κs args r e w. refl }
+
+pub klumdray-tunnelling-request-write-stated : Stated klumdray-tunnelling-request-write-kinds.ps klumdray-tunnelling-request-write-kinds.r klumdray-tunnelling-request-write-reads.Pre klumdray-tunnelling-request-write-reads.Post (λ κs a. klumdray-tunnelling-request-write-reads.ensures κs a tt)
+klumdray-tunnelling-request-write-stated = record { determines = λ κs args r₁ r₂ w₁ w₂ x y. let e = wrote-number-one x y in (e .0, λ i. (tt, (tt, (tt, (tt, (tt, (tt, (tt, (tt, (tt, (tt, (tt, (tt, (e .1 i, tt)))))))))))))); free = λ κs args. tt; whole = λ κs args r e w. refl }
+
+pub klumdray-tunnelling-ack-read-stated : Stated klumdray-tunnelling-ack-read-kinds.ps klumdray-tunnelling-ack-read-kinds.r klumdray-tunnelling-ack-read-reads.Pre klumdray-tunnelling-ack-read-reads.Post (λ κs a. klumdray-tunnelling-ack-read-reads.ensures κs a tt)
+klumdray-tunnelling-ack-read-stated = record { determines = λ κs args r₁ r₂ w₁ w₂ x y. (x ∙ sym y, refl); free = λ κs args. tt; whole = λ κs args r e w. refl }
+
+pub klumdray-tunnelling-ack-write-stated : Stated klumdray-tunnelling-ack-write-kinds.ps klumdray-tunnelling-ack-write-kinds.r klumdray-tunnelling-ack-write-reads.Pre klumdray-tunnelling-ack-write-reads.Post (λ κs a. klumdray-tunnelling-ack-write-reads.ensures κs a tt)
+klumdray-tunnelling-ack-write-stated = record { determines = λ κs args r₁ r₂ w₁ w₂ x y. let e = wrote-number-one x y in (e .0, λ i. (tt, (tt, (tt, (e .1 i, tt))))); free = λ κs args. tt; whole = λ κs args r e w. refl }
+
+pub klumdray-tunnelling-receive-stated : Stated klumdray-tunnelling-receive-kinds.ps klumdray-tunnelling-receive-kinds.r klumdray-tunnelling-receive-reads.Pre klumdray-tunnelling-receive-reads.Post (λ κs a. klumdray-tunnelling-receive-reads.ensures κs a tt)
+klumdray-tunnelling-receive-stated = record { determines = λ κs args r₁ r₂ w₁ w₂ x y. let e = took-through-one x y in (e .0, λ i. (e .1 .0 i, (tt, (e .1 .1 i, tt)))); free = λ κs args. tt; whole = λ κs args r e w. refl }
+
+pub klumdray-tunnelling-send-stated : Stated klumdray-tunnelling-send-kinds.ps klumdray-tunnelling-send-kinds.r klumdray-tunnelling-send-reads.Pre klumdray-tunnelling-send-reads.Post (λ κs a. klumdray-tunnelling-send-reads.ensures κs a tt)
+klumdray-tunnelling-send-stated = record { determines = λ κs args r₁ r₂ w₁ w₂ x y. let e = sent-through-one x y in (e .0, λ i. (tt, (tt, (tt, (tt, (tt, (tt, (tt, (tt, (tt, (tt, (tt, (tt, (e .1 i, tt)))))))))))))); free = λ κs args. tt; whole = λ κs args r e w. refl }
+
+pub klumdray-tunnelling-confirm-stated : Stated klumdray-tunnelling-confirm-kinds.ps klumdray-tunnelling-confirm-kinds.r klumdray-tunnelling-confirm-reads.Pre klumdray-tunnelling-confirm-reads.Post (λ κs a. klumdray-tunnelling-confirm-reads.ensures κs a tt)
+klumdray-tunnelling-confirm-stated = record { determines = λ κs args r₁ r₂ w₁ w₂ x y. let e = confirmed-through-one x y in (e .0, λ i. (e .1 i, (tt, tt))); free = λ κs args. tt; whole = λ κs args r e w. refl }

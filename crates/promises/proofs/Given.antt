@@ -1,7 +1,7 @@
 -- The numbers that a C caller gives, each with the range that include/klumdray.h says: "none is cut on its way, and one outside its range is
 -- refused". Each call that takes numbers answers 14 exactly if one of them is outside, and has then written nothing. A step has its 14 in its
 -- place of the order. The contracts' tests, which are divided between the surface and the calls inside, come to these ranges.
-use Prim.Native.Nat.{ℕ, suc, _≤_, _<_}
+use Prim.Native.Nat.{ℕ, suc, _*_, _≤_, _<_}
 use mathlib.Core.Bool.{Bool, true, false, cond, not, _&&_, _||_}
 use mathlib.Core.List.{List, [], _∷_}
 use mathlib.Core.Logic.{_↔_, Iff·trans}
@@ -9,7 +9,7 @@ use mathlib.Core.Path.{_≡_, refl, sym, ap, _∙_}
 use native.Mathlib.Omega.{arith}
 use lib.Dec.{ltb, leb, eqb}
 use lib.ListN.{length}
-use borrow.Author.Tests.{ltb-true, leb-true, eqb-true, eqb-false, lt-ltb, le-leb, not-true}
+use borrow.Author.Tests.{ltb-true, leb-true, eqb-true, eqb-false, eq-eqb, lt-ltb, le-leb, not-true}
 use Rattle.cemi.proofs.LayoutLaws.{MessageRanges, message-ranges}
 use Rattle.cemi.specs.Codes.{isRead, isConfirmation}
 use Rattle.cemi.specs.Writing.{messageInRange}
@@ -17,9 +17,12 @@ use Rattle.cemi.specs.declared.Codes.{Codes}
 use Rattle.cemi.specs.declared.Codes.the-variants.{All, IndicationOnly}
 use Rattle.cemi.specs.declared.Message.{Message}
 use Rattle.coupler.specs.Step.{heard, nothing}
-use Rattle.frame.proofs.Apart.{refuse-one}
+use Rattle.channels.specs.Table.{many, channelAt}
+use Rattle.channels.specs.declared.Channel.{Channel}
+use Rattle.exchange.specs.Sending.{sentBy}
+use Rattle.frame.proofs.Apart.{refuse-one, put-refused, unwritten-one}
 use Rattle.frame.proofs.Numbers.{number-some}
-use Rattle.frame.proofs.Order.{givesNot, never-given, chose-refused}
+use Rattle.frame.proofs.Order.{givesNot, never-given, chose-refused, refusal-once}
 use Rattle.frame.proofs.Valid.{Ranges, ranges-of, ranged}
 use Rattle.frame.proofs.Writing.{unranged-iff}
 use Rattle.frame.specs.Answers.{Numbered}
@@ -28,13 +31,14 @@ use Rattle.frame.specs.Refusals.{number}
 use Rattle.frame.specs.Valid.{inRange}
 use Rattle.frame.specs.declared.Meaning.{Meaning}
 use Rattle.frame.specs.declared.Refusal.{Refusal}
-use Rattle.frame.specs.declared.Refusal.the-variants.{WrongSetting, NoTable, SmallRoom, OutOfRange}
+use Rattle.frame.specs.declared.Refusal.the-variants.{WrongSetting, NoTable, SmallRoom, OutOfRange, NotOpen}
 use Rattle.frame.specs.declared.Verdict.the-variants.{Refuse}
 use Rattle.klumdray.proofs.BlockLaws.{unsided, unsided-heard}
 use Rattle.klumdray.proofs.Telling.{number-alone}
 use Rattle.klumdray.specs.Block.{codesIn, couplerSet, lentRight, heardThrough, SteppedThrough}
 use Rattle.klumdray.specs.Decoding.{numberIn}
-use Rattle.klumdray.specs.Numbers.{areFlags, areOctets, areWords, areNumbers, areMarks, meaningFrom, messageFrom, WroteTp1, WroteCemi, WroteRouting}
+use Rattle.klumdray.specs.Channels.{channelSize, channelsIn, areChannels, SentThrough}
+use Rattle.klumdray.specs.Numbers.{areFlags, areOctets, areWords, areNumbers, areMarks, areConnected, meaningFrom, messageFrom, acknowledgementFrom, WroteTp1, WroteCemi, WroteRouting, WroteRequest, WroteAcknowledgement}
 use Rattle.klumdray.specs.Traces.{explanationNumber, queryFits, TracedThrough, whyThroughTests, whyThrough}
 use Rattle.octets.proofs.Truth.{by-cases, never, and-true}
 use Rattle.octets.specs.Octets.{octetAt, Octets}
@@ -48,8 +52,11 @@ use Rattle.tracer.specs.Query.{queryOf, isQuery}
 use Rattle.tracer.specs.Why.{whyOf}
 use Rattle.tracer.specs.declared.Explanation.{Explanation}
 use Rattle.tracer.specs.declared.Query.{Query}
+use Rattle.frame.specs.declared.Written.the-variants.{Put, Refused as Unwritten}
 use Rattle.tracer.specs.declared.Explanation.the-variants.{Refused as Unexplained}
+use Rattle.tunnelling.specs.Layout.{requestOctets, acknowledgementOctets}
 use Rattle.promises.proofs.Step.{refused-answer}
+use Rattle.promises.proofs.SurfaceTunnelling.{request-write-back, ack-write-back, send-back, send-refused-stays}
 use Rattle.promises.proofs.Surface.{WritesBack, tp1-write-back, cemi-write-back, routing-write-back, step-refused-stays, trace-back, trace-refused-stays, why-back}
 
 infix 70 _from_to_
@@ -114,6 +121,44 @@ module _ (error : ℕ) where
   mark-fits : (confirmation : Bool) → error ≤ cond confirmation 1 0 → (error < 2) × (confirmation || not (eqb error 1) ≡ true)
   mark-fits true h = (omega arith, refl)
   mark-fits false h = let e : error ≡ 0 = omega arith in (omega arith, rw e refl)
+
+-- numbers of one octet
+two-inside : (a b : ℕ) → areOctets a b ≡ true ↔ AllInside (a from 0 to 0xFF ∷ b from 0 to 0xFF ∷ [])
+unfolding areOctets
+two-inside a b = (
+  (λ e. let x = and-true (ltb a 256) (ltb b 256) e in (up-to a 0xFF (ltb-true a 256 (x .0)), (up-to b 0xFF (ltb-true b 256 (x .1)), tt))),
+  λ x. rw (lt-ltb a 256 (omega (arith, x .0 .1)), lt-ltb b 256 (omega (arith, x .1 .0 .1))),
+)
+
+three-inside : (a b c : ℕ) → areConnected a b c ≡ true ↔ AllInside (a from 0 to 0xFF ∷ b from 0 to 0xFF ∷ c from 0 to 0xFF ∷ [])
+unfolding areConnected
+three-inside a b c = (
+  (λ e.
+      let x = and-true (ltb a 256 && ltb b 256) (ltb c 256) e in
+      let y = and-true (ltb a 256) (ltb b 256) (x .0) in
+      (up-to a 0xFF (ltb-true a 256 (y .0)), (up-to b 0xFF (ltb-true b 256 (y .1)), (up-to c 0xFF (ltb-true c 256 (x .1)), tt)))),
+  λ x. rw (lt-ltb a 256 (omega (arith, x .0 .1)), lt-ltb b 256 (omega (arith, x .1 .0 .1)), lt-ltb c 256 (omega (arith, x .1 .1 .0 .1))),
+)
+
+-- one test more beside those of the message, and one before them
+beside : {A B : Type 0} (f o m : Bool) → o ≡ true ↔ A → f && m ≡ true ↔ B → f && o && m ≡ true ↔ (A × B)
+beside true true true a b = ((λ e. (a .0 refl, b .0 refl)), λ e. refl)
+beside true true false a b = ((λ e. never (sym e)), λ x. b .1 (x .1))
+beside true false m a b = ((λ e. never (sym e)), λ x. never (sym (a .1 (x .0))))
+beside false o m a b = ((λ e. never (sym e)), λ x. never (sym (b .1 (x .1))))
+
+before : {A B : Type 0} (o f m : Bool) → o ≡ true ↔ A → f && m ≡ true ↔ B → o && f && m ≡ true ↔ (A × B)
+before true true true a b = ((λ e. (a .0 refl, b .0 refl)), λ e. refl)
+before true true false a b = ((λ e. never (sym e)), λ x. b .1 (x .1))
+before true false m a b = ((λ e. never (sym e)), λ x. never (sym (b .1 (x .1))))
+before false f m a b = ((λ e. never (sym e)), λ x. never (sym (a .1 (x .0))))
+
+-- 14 stands first in the order of sending, and nowhere else
+send-unranged : (ranged : Bool) (c : Channel) (octets : List ℕ) (room : ℕ) → sentBy ranged c octets room ≡ Unwritten OutOfRange ↔ (ranged ≡ false)
+unfolding sentBy
+send-unranged ranged c octets room =
+    let w = refusal-once Unwritten (λ q r. unwritten-one) [] (not (c .opened) gives NotOpen ∷ ltb room (length octets) gives SmallRoom ∷ []) (not ranged) (Put (length octets)) OutOfRange put-refused refl refl in
+    ((λ e. not-true ranged (w .0 e .1)), λ e. w .1 (tt, ap not e))
 
 module _ (extended first priority source group destination count : ℕ) where
   abbrev fit : Bool
@@ -197,6 +242,32 @@ module _ (extended first priority source group destination count : ℕ) where
       → RefusesOutside (MessageInside IndicationOnly code error (frameNumbers extended first priority source group destination count (length p))) answer (after ≡ room)
   routing-write-numbers code error p room answer after w =
       writes-inside (routing-write-back (fit && areMarks code error) (messageFrom code error meaning) p room answer after w) (message-inside IndicationOnly code error (length p))
+
+  -- "channel, counter 0 to 255   others as for klumdray_cemi_write"
+  pub request-write-numbers : (channel counter code error : ℕ) (p room : List ℕ) (answer : ℕ) (after : List ℕ)
+      → WroteRequest (fit && areMarks code error && areOctets channel counter) channel counter (messageFrom code error meaning) p room answer after
+      → RefusesOutside (AllInside (channel from 0 to 0xFF ∷ counter from 0 to 0xFF ∷ []) × MessageInside All code error (frameNumbers extended first priority source group destination count (length p))) answer (after ≡ room)
+  request-write-numbers channel counter code error p room answer after w =
+      writes-inside (request-write-back (fit && areMarks code error && areOctets channel counter) channel counter (messageFrom code error meaning) p room answer after w)
+      (beside (fit && areMarks code error) (areOctets channel counter) (messageInRange All (messageFrom code error meaning) (length p)) (two-inside channel counter) (message-inside All code error (length p)))
+
+  -- a request that is sent: "a number or the payload's length outside its range as klumdray_cemi_write (14)", and the block's length before it;
+  -- the channel has no range
+  pub send-numbers : (block : List ℕ) (channel code error : ℕ) (p room : List ℕ) (answer : ℕ) (after : List ℕ)
+      → SentThrough (fit && areMarks code error) block channel (messageFrom code error meaning) p room answer after
+      → RefusesOutside ((length block ≡ channelSize * many) × MessageInside All code error (frameNumbers extended first priority source group destination count (length p))) answer (after ≡ room)
+  send-numbers block channel code error p room answer after w =
+      refuses-outside (areChannels block && (fit && areMarks code error) && messageInRange All (messageFrom code error meaning) (length p))
+      (Iff·trans (send-back w .refused OutOfRange) (send-unranged (areChannels block && (fit && areMarks code error) && messageInRange All (messageFrom code error meaning) (length p)) (channelAt (channelsIn block) channel) (requestOctets channel (channelAt (channelsIn block) channel .send) (messageFrom code error meaning) p) (length room)))
+      (before (areChannels block) (fit && areMarks code error) (messageInRange All (messageFrom code error meaning) (length p)) (eqb-true (length block) (channelSize * many), eq-eqb (length block) (channelSize * many)) (message-inside All code error (length p)))
+      (send-refused-stays w)
+
+-- "channel, counter, status 0 to 255"
+pub ack-write-numbers : (channel counter status : ℕ) (room : List ℕ) (answer : ℕ) (after : List ℕ) → WroteAcknowledgement (areConnected channel counter status) (acknowledgementFrom channel counter status) room answer after
+    → RefusesOutside (AllInside (channel from 0 to 0xFF ∷ counter from 0 to 0xFF ∷ status from 0 to 0xFF ∷ [])) answer (after ≡ room)
+ack-write-numbers channel counter status room answer after w =
+    let b = ack-write-back (areConnected channel counter status) (acknowledgementFrom channel counter status) room answer after w in
+    refuses-outside (areConnected channel counter status) (Iff·trans (b .told .refused OutOfRange) (unranged-iff (areConnected channel counter status) (acknowledgementOctets (acknowledgementFrom channel counter status)) room)) (three-inside channel counter status) (b .stays)
 
 -- the tracer's calls
 

@@ -107,7 +107,8 @@ pub record WritesBack (ranged : Bool) (octets room : List ℕ) (size : ℕ) (ans
   pub whole : numberIn answer ≡ 0 → writtenIn answer ≡ size
   pub stays : (numberIn answer ≡ 0 → ⊥) → after ≡ room
 
-writes-back : {ranged : Bool} {octets room : List ℕ} {size answer : ℕ} {after : List ℕ} → (ranged ≡ true → length octets ≤ 270) → length octets ≡ size → WroteNumber ranged octets room answer after
+-- no frame that is written is longer than a request with 255 octets of payload
+pub writes-back : {ranged : Bool} {octets room : List ℕ} {size answer : ℕ} {after : List ℕ} → (ranged ≡ true → length octets ≤ 274) → length octets ≡ size → WroteNumber ranged octets room answer after
     → WritesBack ranged octets room size answer after
 writes-back most e w = record { told = written-told most w; whole = λ z. written-size most w z ∙ e; stays = written-leaves most w }
 
