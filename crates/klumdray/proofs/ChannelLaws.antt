@@ -29,7 +29,7 @@ use Rattle.frame.specs.declared.Written.{Written}
 use Rattle.klumdray.proofs.WriterNumbers.{request-most}
 use Rattle.klumdray.specs.Channels.{channelSize, receivePlace, sendPlace, firstChannel, channelsFrom, channelsIn, areChannels, withOctet, blockReceived, blockConfirmed, receivedNumber, deliveredPayload, confirmedNumber, receivedThrough, confirmedThrough, sentThrough, TookThrough, SentThrough, ConfirmedThrough}
 use Rattle.klumdray.specs.Numbers.{writtenNumber}
-use Rattle.klumdray.specs.Stages.{channelOrNone, octetOf, heldChannel, Sized}
+use Rattle.klumdray.specs.Stages.{channelOrNone, octetIn, heldChannel, Sized}
 use Rattle.octets.proofs.Truth.{and-true, by-cases}
 use Rattle.octets.specs.Octets.{octetAt}
 use Rattle.octets.specs.Room.{over}
@@ -38,7 +38,7 @@ use Rattle.tunnelling.specs.Reading.{channelIn}
 
 -- the places as the code works them out: of a number that is not 0
 
-pub octet-place : (block : List ℕ) (n place : ℕ) → (n ≡ 0 → ⊥) → octetAt block (channelSize * (n - 1) + place) ≡ octetOf block n place
+pub octet-place : (block : List ℕ) (n place : ℕ) → (n ≡ 0 → ⊥) → octetAt block (channelSize * (n - 1) + place) ≡ octetIn block n place
 octet-place block zero place h = absurd (h refl)
 octet-place block (suc k) place h = let e : suc k - 1 ≡ k = omega arith in rw e
 
@@ -60,7 +60,7 @@ in-three P n (a ∷ b ∷ d ∷ l) e f = f a b d l (omega arith)
 
 held-behind : (a b d : ℕ) (l : List ℕ) (k : ℕ) → heldChannel (a ∷ b ∷ d ∷ l) (suc (suc k)) ≡ heldChannel l (suc k)
 held-behind a b d l k =
-    let at : (place : ℕ) → octetOf (a ∷ b ∷ d ∷ l) (suc (suc k)) place ≡ octetOf l (suc k) place = λ place.
+    let at : (place : ℕ) → octetIn (a ∷ b ∷ d ∷ l) (suc (suc k)) place ≡ octetIn l (suc k) place = λ place.
     let e : channelSize * suc k + place ≡ suc (suc (suc (channelSize * k + place))) = omega arith in
     ap (octetAt (a ∷ b ∷ d ∷ l)) e in
     λ i. record { opened = eqb (at 0 i) 0x01; receive = at 1 i; send = at 2 i }

@@ -31,12 +31,12 @@ abbrev pub channelOrNone : ℕ → ℕ
 channelOrNone n = cond (ltb n 256) n 0
 
 -- an octet of a channel's, and the channel of them; a number that is no channel's has none of the block's, and those that are missing are 0
-abbrev pub octetOf : List ℕ → ℕ → ℕ → ℕ
-octetOf block zero place = 0
-octetOf block (suc k) place = octetAt block (channelSize * k + place)
+abbrev pub octetIn : List ℕ → ℕ → ℕ → ℕ
+octetIn block zero place = 0
+octetIn block (suc k) place = octetAt block (channelSize * k + place)
 
 abbrev pub heldChannel : List ℕ → ℕ → Channel
-heldChannel block n = record { opened = eqb (octetOf block n openPlace) 0x01; receive = octetOf block n receivePlace; send = octetOf block n sendPlace }
+heldChannel block n = record { opened = eqb (octetIn block n openPlace) 0x01; receive = octetIn block n receivePlace; send = octetIn block n sendPlace }
 
 -- a size that its number holds
 abbrev pub Sized : Written → Type 0

@@ -4,7 +4,7 @@ ghost use mathlib.Core.Path.{_≡_};
 ghost use lib.ListN.{length};
 ghost use Rattle.exchange.specs.Sending.{SentOn};
 ghost use Rattle.klumdray.specs.Channels.{areChannels, withOctet, blockReceived, blockConfirmed, receivedNumber, deliveredPayload, confirmedNumber};
-ghost use Rattle.klumdray.specs.Stages.{channelOrNone, octetOf, heldChannel};
+ghost use Rattle.klumdray.specs.Stages.{channelOrNone, octetIn, heldChannel};
 use crate::numbers;
 use cemi::CemiAnswer;
 use cemi::Message;
@@ -35,8 +35,8 @@ pub(crate) fn number_of(channel: u32) -> u8
     }
 }
 
-fn octet_of(block: &[u8], number: u8, place: u8) -> u8
-    ensures { λ r. ⌜ r ≡ octetOf (now (block .entry)) number place ⌝ }
+fn octet_in(block: &[u8], number: u8, place: u8) -> u8
+    ensures { λ r. ⌜ r ≡ octetIn (now (block .entry)) number place ⌝ }
 {
     if number == 0 {
         return 0;
@@ -49,9 +49,9 @@ pub(crate) fn channel_in(block: &[u8], number: u8) -> Channel
     ensures { λ r. ⌜ r ≡ heldChannel (now (block .entry)) number ⌝ }
 {
     Channel {
-        opened: octet_of(block, number, 0) == 1,
-        receive: octet_of(block, number, 1),
-        send: octet_of(block, number, 2),
+        opened: octet_in(block, number, 0) == 1,
+        receive: octet_in(block, number, 1),
+        send: octet_in(block, number, 2),
     }
 }
 
