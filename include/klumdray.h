@@ -1,21 +1,23 @@
 /*
  * Klumdray: the surface of the proved library libklumdray.a, numbers and octets only.
  *
- * Document 01 ("Frame layouts", "Refusal numbers", "The coupler", "Sites and the tracer") says what
- * each call does; each call is proved to do it for every input. So is what this file says of the
- * numbers' ranges (crates/promises/proofs/Given.antt), of the answers' bits, of the parts of the
- * caller's octets, of the list in a trace's room and of the frame in a step's memory, as the helpers at
- * its end read them (Surface.antt there), and of the test for an overlap (Overlap.antt).
+ * Document 01 ("Frame layouts", "Refusal numbers", "The coupler", "Sites and the tracer") and
+ * document 02 (R-1, tunnelling) say what each call does; each call is proved to do it for every
+ * input. So is what this file says of the numbers' ranges (crates/promises/proofs/Given.antt), of
+ * the answers' bits, of the parts of the caller's octets, of the list in a trace's room, of the
+ * frame in a step's memory and of the channels in their table, as the helpers at its end read them
+ * (Surface.antt there), and of the test for an overlap (Overlap.antt).
  *
  * Octets. A slice is a pointer and then a length of 64 bits, on every machine; a null pointer with
- * length 0 is an empty slice. Otherwise the pointer must have that many octets behind it. All octets
- * stay the caller's: a call reads those lent as const, writes only the room and the memory lent for
- * it, keeps no pointer and no memory of its own between calls. Calls may be made from several
- * threads.
+ * length 0 is an empty slice. Otherwise the pointer must have that many octets behind it. All
+ * octets stay the caller's: a call reads those lent as const, writes only the room, the memory and
+ * the table of channels lent for it, keeps no pointer and no memory of its own between calls. Calls
+ * may be made from several threads.
  *
- * Apart. A room or a memory must not overlap anything else lent to the same call: what the proof
- * says of a call it says of slices that lie apart. Each call that writes has a checked form, named
- * by "_checked" behind its name: the same call, which first refuses an overlap by 14.
+ * Apart. What is lent to be written must not overlap anything else lent to the same call: what the
+ * proof says of a call it says of slices that lie apart. Each call that writes and is lent two
+ * slices or more has a checked form, named by "_checked" behind its name: the same call, which
+ * first refuses an overlap by 14.
  *
  * Numbers. "10h" is hexadecimal. A field of two octets has the high octet first. A number is given
  * as 32 bits and answered as 32 or 64: none is cut on its way, and one outside its range is refused.
@@ -39,7 +41,7 @@
  *    8  a = 255
  *    9  cEMI standard with LG above 15
  *   10  KNXnet/IP header length not 06h or version not 10h
- *   11  service not 0530h
+ *   11  service not the one wanted
  *   12  total length differs from the datagram's
  *   13  lent room too small
  *   14  a number given by the caller is outside its range
@@ -47,6 +49,9 @@
  *   16  site length not a multiple of 12, or a wrong mark
  *   17  one line twice in a site
  *   18  filter table missing or of wrong size
+ *   19  connection header's first octet not 04h
+ *   20  channel not open
+ *   21  counter not one that the channel awaits
  *
  * A reader's answer is one number of 64 bits. With a refusal every bit above 7 is 0.
  *
@@ -154,6 +159,49 @@
  *   bits 16 to 23  the line of the coupler that stops it
  *   bit  24        the direction: 0 main to sub, 1 sub to main
  *   bits 25 to 31  0
+ *
+ * A table of channels is a block of 12 octets, three for each of the channels 1 to 4, which the
+ * caller lends to every call that receives, sends or confirms on them. At the start all of them are
+ * 0: every channel is closed.
+ *
+ *   octets 0 to  2  channel 1: open, receive counter, send counter
+ *   octets 3 to  5  channel 2, in the same order
+ *   octets 6 to  8  channel 3
+ *   octets 9 to 11  channel 4
+ *
+ * Open is 01h; every other value is closed, and the counters of a closed channel mean nothing. The
+ * receive counter is the one expected in the next request received, the send counter that of the
+ * request to send until it is acknowledged. The caller opens a channel by writing 01h 00h 00h to
+ * its three octets and closes it by writing 00h to the first. A call changes one octet at most, a
+ * counter, which it raises by one, 255 going to 0.
+ *
+ * A TUNNELLING_REQUEST and a TUNNELLING_ACK begin alike.
+ *
+ *   octets 0 to 5  KNXnet/IP header: 06h, 10h, service (0420h, 0421h), total length
+ *   octet  6       04h
+ *   octet  7       channel
+ *   octet  8       counter
+ *   octet  9       00h in a request, where it is not read; the status in an acknowledgement
+ *
+ * A cEMI message follows in a request, nothing in an acknowledgement.
+ *
+ * The answer of the acknowledgement's reader is one number of 32 bits. With a refusal every bit
+ * above 7 is 0.
+ *
+ *   bits  0 to  7  the number
+ *   bits  8 to 15  channel
+ *   bits 16 to 23  counter
+ *   bits 24 to 31  status
+ *
+ * A receive's answer is a reader's. With number 0 the acknowledgement is the first 10 octets of the
+ * room, and those behind it stay as they were; the message code is not 0 exactly if the request is
+ * delivered, and with 0 there, where it is acknowledged again, every bit is 0.
+ *
+ * A confirm's answer is one number of 32 bits. With a refusal every bit above 7 is 0.
+ *
+ *   bits  0 to  7  the number
+ *   bit   8        1 if the send counter was raised, 0 if a status other than 00h left it
+ *   bits  9 to 31  0
  */
 #ifndef KLUMDRAY_H
 #define KLUMDRAY_H
@@ -161,8 +209,8 @@
 #include <stddef.h>
 #include <stdint.h>
 
-/* 0.2.0, of this file and of the library that it is shipped with: two digits for each part. */
-#define KLUMDRAY_VERSION 0x000200
+/* 0.3.0, of this file and of the library that it is shipped with: two digits for each part. */
+#define KLUMDRAY_VERSION 0x000300
 
 #ifdef __cplusplus
 extern "C" {
@@ -308,9 +356,104 @@ uint32_t klumdray_why(uint32_t start, uint32_t kind, uint32_t destination, uint3
                       uint64_t project_length, const uint8_t *own, uint64_t own_length,
                       uint32_t line);
 
+/* The tunnelling's numbers and sizes. */
+enum {
+    KLUMDRAY_CHANNELS = 4,
+    KLUMDRAY_CHANNEL_SIZE = 3,
+    KLUMDRAY_CHANNELS_SIZE = 12,
+    KLUMDRAY_ACK_SIZE = 10
+};
+
 /*
- * The checked forms. A room or a memory that overlaps anything else lent is refused by 14, and
- * nothing is written; otherwise the answer is the call's own.
+ * Reads a KNXnet/IP TUNNELLING_REQUEST (0420h) with one cEMI request, confirmation or indication,
+ * whatever its channel and counter are. Of an accepted one they are read by
+ * klumdray_tunnelling_channel and klumdray_tunnelling_counter.
+ * Refusals, the first that applies: fewer than 6 octets (1), 10, 11, 12, fewer than 10 octets (1),
+ * 19, then as klumdray_cemi_read.
+ */
+uint64_t klumdray_tunnelling_request_read(const uint8_t *octets, uint64_t n);
+
+/*
+ * Writes a request with a plain message, on any channel and with any counter, to the front of the
+ * room.
+ *   channel, counter 0 to 255   others as for klumdray_cemi_write
+ * Refusals: a number or the payload's length outside its range (14); then the room below the
+ * datagram's size (13), which is payload length + 19.
+ */
+uint64_t klumdray_tunnelling_request_write(uint32_t channel, uint32_t counter, uint32_t code,
+                                           uint32_t error_mark, uint32_t extended,
+                                           uint32_t first_sending, uint32_t priority,
+                                           uint32_t source, uint32_t group, uint32_t destination,
+                                           uint32_t count, const uint8_t *payload, uint64_t n,
+                                           uint8_t *room, uint64_t m);
+
+/*
+ * Reads a KNXnet/IP TUNNELLING_ACK (0421h), whatever its channel, counter and status are.
+ * Refusals, the first that applies: fewer than 6 octets (1), 10, 11, 12, fewer than 10 octets (1),
+ * 19, 5.
+ */
+uint32_t klumdray_tunnelling_ack_read(const uint8_t *octets, uint64_t n);
+
+/*
+ * Writes an acknowledgement, 10 octets, to the front of the room.
+ *   channel, counter, status 0 to 255
+ * Refusals: a number outside its range (14); then the room below 10 octets (13).
+ */
+uint64_t klumdray_tunnelling_ack_write(uint32_t channel, uint32_t counter, uint32_t status,
+                                       uint8_t *room, uint64_t m);
+
+/*
+ * A request arrives. With the counter expected on its channel it is delivered, acknowledged, and
+ * the receive counter raised. One behind that counter, 255 being behind 0, it is acknowledged again
+ * and not delivered. Any other is refused, and no refused request is acknowledged. The
+ * acknowledgement has the request's channel and counter and status 00h.
+ *   channels: the table, 12 octets, laid out as above
+ *   octets: the datagram received; who sent it is not asked
+ *   room: at least 10 octets
+ * Refusals, the first that applies: the table's length (14), room (13), fewer than 6 octets (1),
+ * 10, 11, 12, fewer than 10 octets (1), 19, the channel not open, whatever its number (20), the
+ * counter neither expected nor one behind (21), then as klumdray_cemi_read, which a request one
+ * behind can draw too. A refused call leaves room and table as they were, and a request that is
+ * acknowledged again leaves the table.
+ * The answer is read by klumdray_number: with 0 the acknowledgement is to be sent. Then it is read
+ * by klumdray_delivered: with 1 the frame is taken as from klumdray_tunnelling_request_read.
+ */
+uint64_t klumdray_tunnelling_receive(uint8_t *channels, uint64_t channels_length,
+                                     const uint8_t *octets, uint64_t length, uint8_t *room,
+                                     uint64_t room_length);
+
+/*
+ * Writes a request with the channel's send counter, which stays until klumdray_tunnelling_confirm
+ * raises it: a request sent again has the same one.
+ *   channels: the table, 12 octets, laid out as above
+ *   channel: any number; one that is no channel's is not open
+ *   others as for klumdray_cemi_write
+ * Refusals, the first that applies: the table's length or a number or the payload's length outside
+ * its range (14), the channel not open (20), the room below the datagram's size (13), which is
+ * payload length + 19.
+ */
+uint64_t klumdray_tunnelling_send(const uint8_t *channels, uint64_t channels_length,
+                                  uint32_t channel, uint32_t code, uint32_t error_mark,
+                                  uint32_t extended, uint32_t first_sending, uint32_t priority,
+                                  uint32_t source, uint32_t group, uint32_t destination,
+                                  uint32_t count, const uint8_t *payload, uint64_t n,
+                                  uint8_t *room, uint64_t m);
+
+/*
+ * An acknowledgement arrives. With its channel's send counter and status 00h it raises that
+ * counter; with another status it changes nothing. Whether a request was sent is not asked.
+ *   channels: the table, 12 octets, laid out as above
+ *   octets: the datagram received; who sent it is not asked
+ * Refusals, the first that applies: the table's length (14), fewer than 6 octets (1), 10, 11, 12,
+ * fewer than 10 octets (1), 19, the channel not open, whatever its number (20), another counter
+ * (21), 5. A refused call leaves the table as it was.
+ */
+uint32_t klumdray_tunnelling_confirm(uint8_t *channels, uint64_t channels_length,
+                                     const uint8_t *octets, uint64_t length);
+
+/*
+ * The checked forms. What is lent to be written and overlaps anything else lent is refused by 14,
+ * and nothing is written; otherwise the answer is the call's own.
  */
 
 /* 1 if two slices have an octet in common, else 0. */
@@ -394,6 +537,63 @@ static inline uint64_t klumdray_trace_checked(uint32_t start, uint32_t kind, uin
                           project_length, own, own_length, room, room_length);
 }
 
+static inline uint64_t klumdray_tunnelling_request_write_checked(uint32_t channel, uint32_t counter,
+                                                                 uint32_t code, uint32_t error_mark,
+                                                                 uint32_t extended,
+                                                                 uint32_t first_sending,
+                                                                 uint32_t priority, uint32_t source,
+                                                                 uint32_t group,
+                                                                 uint32_t destination,
+                                                                 uint32_t count,
+                                                                 const uint8_t *payload, uint64_t n,
+                                                                 uint8_t *room, uint64_t m)
+{
+    if (klumdray_overlap(payload, n, room, m))
+        return 14u;
+    return klumdray_tunnelling_request_write(channel, counter, code, error_mark, extended,
+                                             first_sending, priority, source, group, destination,
+                                             count, payload, n, room, m);
+}
+
+static inline uint64_t klumdray_tunnelling_receive_checked(uint8_t *channels,
+                                                           uint64_t channels_length,
+                                                           const uint8_t *octets, uint64_t length,
+                                                           uint8_t *room, uint64_t room_length)
+{
+    if (klumdray_overlap(channels, channels_length, octets, length) ||
+        klumdray_overlap(channels, channels_length, room, room_length) ||
+        klumdray_overlap(octets, length, room, room_length))
+        return 14u;
+    return klumdray_tunnelling_receive(channels, channels_length, octets, length, room,
+                                       room_length);
+}
+
+static inline uint64_t klumdray_tunnelling_send_checked(const uint8_t *channels,
+                                                        uint64_t channels_length, uint32_t channel,
+                                                        uint32_t code, uint32_t error_mark,
+                                                        uint32_t extended, uint32_t first_sending,
+                                                        uint32_t priority, uint32_t source,
+                                                        uint32_t group, uint32_t destination,
+                                                        uint32_t count, const uint8_t *payload,
+                                                        uint64_t n, uint8_t *room, uint64_t m)
+{
+    if (klumdray_overlap(channels, channels_length, room, m) ||
+        klumdray_overlap(payload, n, room, m))
+        return 14u;
+    return klumdray_tunnelling_send(channels, channels_length, channel, code, error_mark, extended,
+                                    first_sending, priority, source, group, destination, count,
+                                    payload, n, room, m);
+}
+
+static inline uint32_t klumdray_tunnelling_confirm_checked(uint8_t *channels,
+                                                           uint64_t channels_length,
+                                                           const uint8_t *octets, uint64_t length)
+{
+    if (klumdray_overlap(channels, channels_length, octets, length))
+        return 14u;
+    return klumdray_tunnelling_confirm(channels, channels_length, octets, length);
+}
+
 /* The checked forms end here. */
 
 /*
@@ -422,14 +622,17 @@ static inline const char *klumdray_words(uint32_t number)
         "a = 255",
         "cEMI standard with LG above 15",
         "KNXnet/IP header length not 06h or version not 10h",
-        "service not 0530h",
+        "service not the one wanted",
         "total length differs from the datagram's",
         "lent room too small",
         "a number given by the caller is outside its range",
         "own line 00h, or a setting code not allowed",
         "site length not a multiple of 12, or a wrong mark",
         "one line twice in a site",
-        "filter table missing or of wrong size"
+        "filter table missing or of wrong size",
+        "connection header's first octet not 04h",
+        "channel not open",
+        "counter not one that the channel awaits"
     };
     return number < sizeof words / sizeof words[0] ? words[number] : "not a number of these calls";
 }
@@ -512,7 +715,8 @@ static inline uint8_t klumdray_error_mark(uint64_t answer)
     return (uint8_t)(answer >> 58 & 1u);
 }
 
-/* Where the payload begins in the n octets of an accepted cEMI message or routing datagram. */
+/* Where the payload begins in the n octets of an accepted cEMI message, routing datagram or
+ * tunnelling request. */
 static inline size_t klumdray_cemi_payload_start(uint64_t answer, size_t n)
 {
     return n - klumdray_payload_length(answer);
@@ -523,8 +727,13 @@ static inline size_t klumdray_routing_payload_start(uint64_t answer, size_t n)
     return n - klumdray_payload_length(answer);
 }
 
-/* Where additional information begins in the n octets of an accepted message or datagram, and how
- * many octets it has. */
+static inline size_t klumdray_tunnelling_payload_start(uint64_t answer, size_t n)
+{
+    return n - klumdray_payload_length(answer);
+}
+
+/* Where additional information begins in the n octets of an accepted message, datagram or request,
+ * and how many octets it has. */
 static inline size_t klumdray_cemi_information_start(void)
 {
     return 2u;
@@ -543,6 +752,16 @@ static inline size_t klumdray_routing_information_start(void)
 static inline size_t klumdray_routing_information_length(uint64_t answer, size_t n)
 {
     return n - klumdray_payload_length(answer) - 15u;
+}
+
+static inline size_t klumdray_tunnelling_information_start(void)
+{
+    return 12u;
+}
+
+static inline size_t klumdray_tunnelling_information_length(uint64_t answer, size_t n)
+{
+    return n - klumdray_payload_length(answer) - 19u;
 }
 
 /* A step's answer, whatever its number is: the acknowledgement, CCh, or 0 for none. */
@@ -639,6 +858,74 @@ static inline uint8_t klumdray_stopping_line(uint32_t answer)
 static inline uint8_t klumdray_stopping_side(uint32_t answer)
 {
     return (uint8_t)(answer >> 24 & 1u);
+}
+
+/* Channel and counter in the octets of an accepted request or acknowledgement, and where the cEMI
+ * message of a request begins. */
+static inline uint8_t klumdray_tunnelling_channel(const uint8_t *octets)
+{
+    return octets[7];
+}
+
+static inline uint8_t klumdray_tunnelling_counter(const uint8_t *octets)
+{
+    return octets[8];
+}
+
+static inline size_t klumdray_tunnelling_message_start(void)
+{
+    return 10u;
+}
+
+/* The answer of the acknowledgement's reader, field by field. */
+static inline uint8_t klumdray_ack_channel(uint32_t answer)
+{
+    return (uint8_t)(answer >> 8 & 0xFFu);
+}
+
+static inline uint8_t klumdray_ack_counter(uint32_t answer)
+{
+    return (uint8_t)(answer >> 16 & 0xFFu);
+}
+
+static inline uint8_t klumdray_ack_status(uint32_t answer)
+{
+    return (uint8_t)(answer >> 24 & 0xFFu);
+}
+
+/* A receive's answer: 1 if the request is delivered, 0 if it is acknowledged again or refused. */
+static inline uint8_t klumdray_delivered(uint64_t answer)
+{
+    return klumdray_message(answer) != KLUMDRAY_NO_MESSAGE;
+}
+
+/* A confirm's answer: 1 if the send counter was raised, else 0. */
+static inline uint8_t klumdray_raised(uint32_t answer)
+{
+    return (uint8_t)(answer >> 8 & 1u);
+}
+
+/* Where a channel's three octets begin in a table of channels; the number is 1 to 4. */
+static inline const uint8_t *klumdray_channel(const uint8_t *channels, uint32_t number)
+{
+    return channels + KLUMDRAY_CHANNEL_SIZE * (number - 1u);
+}
+
+/* 1 if the channel is open, else 0. */
+static inline uint8_t klumdray_channel_open(const uint8_t *channels, uint32_t number)
+{
+    return klumdray_channel(channels, number)[0] == 1u;
+}
+
+/* The counter expected in the next request received, and that of the request to send. */
+static inline uint8_t klumdray_channel_receive(const uint8_t *channels, uint32_t number)
+{
+    return klumdray_channel(channels, number)[1];
+}
+
+static inline uint8_t klumdray_channel_send(const uint8_t *channels, uint32_t number)
+{
+    return klumdray_channel(channels, number)[2];
 }
 
 #ifdef __cplusplus

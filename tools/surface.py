@@ -32,6 +32,9 @@ CALLED = {
     "WrongSetting": "SETTING",
     "WrongRecord": "SITE",
     "NoTable": "TABLE",
+    "OtherConnection": "FIRST_OCTET",
+    "NotOpen": "CHANNEL",
+    "OtherCounter": "COUNTER",
 }
 
 Refusal = namedtuple("Refusal", "number name words")

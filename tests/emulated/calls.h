@@ -56,3 +56,37 @@ CALL(uint32_t, klumdray_why,
      (NUMBER(0, start), NUMBER(1, kind), NUMBER(2, destination), NUMBER(3, count),
       OCTETS(4, site, site_length), OCTETS(5, project, project_length), OCTETS(6, own, own_length),
       NUMBER(7, line)))
+CALL(uint64_t, klumdray_tunnelling_request_read,
+     (const uint8_t *octets, uint64_t n),
+     (OCTETS(0, octets, n)))
+CALL(uint64_t, klumdray_tunnelling_request_write,
+     (uint32_t channel, uint32_t counter, uint32_t code, uint32_t error_mark, uint32_t extended,
+      uint32_t first_sending, uint32_t priority, uint32_t source, uint32_t group,
+      uint32_t destination, uint32_t count, const uint8_t *payload, uint64_t n, uint8_t *room,
+      uint64_t m),
+     (NUMBER(0, channel), NUMBER(1, counter), NUMBER(2, code), NUMBER(3, error_mark),
+      NUMBER(4, extended), NUMBER(5, first_sending), NUMBER(6, priority), NUMBER(7, source),
+      NUMBER(8, group), NUMBER(9, destination), NUMBER(10, count), OCTETS(11, payload, n),
+      ROOM(12, room, m)))
+CALL(uint32_t, klumdray_tunnelling_ack_read,
+     (const uint8_t *octets, uint64_t n),
+     (OCTETS(0, octets, n)))
+CALL(uint64_t, klumdray_tunnelling_ack_write,
+     (uint32_t channel, uint32_t counter, uint32_t status, uint8_t *room, uint64_t m),
+     (NUMBER(0, channel), NUMBER(1, counter), NUMBER(2, status), ROOM(3, room, m)))
+CALL(uint64_t, klumdray_tunnelling_receive,
+     (uint8_t *channels, uint64_t channels_length, const uint8_t *octets, uint64_t length,
+      uint8_t *room, uint64_t room_length),
+     (ROOM(0, channels, channels_length), OCTETS(1, octets, length), ROOM(2, room, room_length)))
+CALL(uint64_t, klumdray_tunnelling_send,
+     (const uint8_t *channels, uint64_t channels_length, uint32_t channel, uint32_t code,
+      uint32_t error_mark, uint32_t extended, uint32_t first_sending, uint32_t priority,
+      uint32_t source, uint32_t group, uint32_t destination, uint32_t count, const uint8_t *payload,
+      uint64_t n, uint8_t *room, uint64_t m),
+     (OCTETS(0, channels, channels_length), NUMBER(1, channel), NUMBER(2, code),
+      NUMBER(3, error_mark), NUMBER(4, extended), NUMBER(5, first_sending), NUMBER(6, priority),
+      NUMBER(7, source), NUMBER(8, group), NUMBER(9, destination), NUMBER(10, count),
+      OCTETS(11, payload, n), ROOM(12, room, m)))
+CALL(uint32_t, klumdray_tunnelling_confirm,
+     (uint8_t *channels, uint64_t channels_length, const uint8_t *octets, uint64_t length),
+     (ROOM(0, channels, channels_length), OCTETS(1, octets, length)))

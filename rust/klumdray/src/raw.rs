@@ -91,6 +91,27 @@ extern "C" {
                     site: *const u8, site_length: u64, project: *const u8,
                     project_length: u64, own: *const u8, own_length: u64,
                     line: u32) -> u32;
+    fn klumdray_tunnelling_request_read(octets: *const u8, n: u64) -> u64;
+    fn klumdray_tunnelling_request_write(channel: u32, counter: u32, code: u32,
+                                         error_mark: u32, extended: u32,
+                                         first_sending: u32, priority: u32,
+                                         source: u32, group: u32, destination: u32,
+                                         count: u32, payload: *const u8, n: u64,
+                                         room: *mut u8, m: u64) -> u64;
+    fn klumdray_tunnelling_ack_read(octets: *const u8, n: u64) -> u32;
+    fn klumdray_tunnelling_ack_write(channel: u32, counter: u32, status: u32,
+                                     room: *mut u8, m: u64) -> u64;
+    fn klumdray_tunnelling_receive(channels: *mut u8, channels_length: u64,
+                                   octets: *const u8, length: u64, room: *mut u8,
+                                   room_length: u64) -> u64;
+    fn klumdray_tunnelling_send(channels: *const u8, channels_length: u64,
+                                channel: u32, code: u32, error_mark: u32,
+                                extended: u32, first_sending: u32, priority: u32,
+                                source: u32, group: u32, destination: u32,
+                                count: u32, payload: *const u8, n: u64,
+                                room: *mut u8, m: u64) -> u64;
+    fn klumdray_tunnelling_confirm(channels: *mut u8, channels_length: u64,
+                                   octets: *const u8, length: u64) -> u32;
 }
 
 /// Calls a writer of the library; what only messages have comes first.

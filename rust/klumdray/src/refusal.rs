@@ -36,7 +36,7 @@ impl Refusal {
     pub const STANDARD_LG: Refusal = Refusal(9);
     /// KNXnet/IP header length not 06h or version not 10h.
     pub const HEADER: Refusal = Refusal(10);
-    /// Service not 0530h.
+    /// Service not the one wanted.
     pub const SERVICE: Refusal = Refusal(11);
     /// Total length differs from the datagram's.
     pub const TOTAL_LENGTH: Refusal = Refusal(12);
@@ -52,6 +52,12 @@ impl Refusal {
     pub const LINE_TWICE: Refusal = Refusal(17);
     /// Filter table missing or of wrong size.
     pub const TABLE: Refusal = Refusal(18);
+    /// Connection header's first octet not 04h.
+    pub const FIRST_OCTET: Refusal = Refusal(19);
+    /// Channel not open.
+    pub const CHANNEL: Refusal = Refusal(20);
+    /// Counter not one that the channel awaits.
+    pub const COUNTER: Refusal = Refusal(21);
 }
 
 /// The words of document 01's table, by number.
@@ -67,7 +73,7 @@ const WORDS: &[&str] = &[
     "a = 255",
     "cEMI standard with LG above 15",
     "KNXnet/IP header length not 06h or version not 10h",
-    "service not 0530h",
+    "service not the one wanted",
     "total length differs from the datagram's",
     "lent room too small",
     "a number given by the caller is outside its range",
@@ -75,6 +81,9 @@ const WORDS: &[&str] = &[
     "site length not a multiple of 12, or a wrong mark",
     "one line twice in a site",
     "filter table missing or of wrong size",
+    "connection header's first octet not 04h",
+    "channel not open",
+    "counter not one that the channel awaits",
 ];
 
 impl Refusal {
