@@ -3,7 +3,7 @@
 use crate::cemi::Code;
 use crate::coupler::{Acknowledgement, Side};
 use crate::tracer::{Reason, Why};
-use crate::{Meaning, Refusal};
+use crate::{tunnelling, Meaning, Refusal};
 
 /// The refusal whose number an answer has.
 #[inline]
@@ -48,7 +48,13 @@ impl Reading {
         usize::from((self.0 >> 48) as u8)
     }
 
-    /// The message code of a cEMI or routing answer.
+    /// Whether there is a message code, which a receive's answer has if the request is delivered.
+    #[inline]
+    pub(crate) fn has_code(self) -> bool {
+        self.0 >> 56 & 3 != 0
+    }
+
+    /// The message code of a cEMI, routing or tunnelling answer.
     #[inline]
     pub(crate) fn code(self) -> Code {
         match self.0 >> 56 & 3 {
@@ -151,4 +157,21 @@ pub(crate) fn why(answer: u32) -> Result<Why, Refusal> {
         from,
         reason,
     })
+}
+
+/// What the answer of the acknowledgement's reader says, or the refusal.
+#[inline]
+pub(crate) fn acknowledgement(answer: u32) -> Result<tunnelling::Acknowledgement, Refusal> {
+    accepted(answer.into())?;
+    Ok(tunnelling::Acknowledgement {
+        channel: (answer >> 8) as u8,
+        counter: (answer >> 16) as u8,
+        status: (answer >> 24) as u8,
+    })
+}
+
+/// Whether a confirm's answer says that the send counter was raised, or the refusal.
+#[inline]
+pub(crate) fn raised(answer: u32) -> Result<bool, Refusal> {
+    accepted(answer.into()).map(|answer| answer >> 8 & 1 == 1)
 }

@@ -1,9 +1,9 @@
 //! Safe calls over the proved library `libklumdray.a`.
 //!
-//! Each call gives what document 01 says, for every input: a frame's meaning with its payload as
-//! a part of the caller's octets, the lines that a telegram reaches on a site, or a [`Refusal`]
-//! with its number in that paper. What a coupler does with a frame is a [`coupler::Outcome`], with
-//! a refusal or without.
+//! Each call gives what documents 01 and 02 say, for every input: a frame's meaning with its
+//! payload as a part of the caller's octets, the lines that a telegram reaches on a site, what a
+//! table of tunnelling channels does, or a [`Refusal`] with its number in those papers. What a
+//! coupler does with a frame is a [`coupler::Outcome`], with a refusal or without.
 //!
 //! ```
 //! let octets = [0xbc, 0, 0, 0x12, 0x34, 0xb4, 0x00, 0x80, 0x56, 0x78, 0x9a, 0xe5];
@@ -26,6 +26,7 @@ mod refusal;
 pub mod routing;
 pub mod tp1;
 pub mod tracer;
+pub mod tunnelling;
 
 pub use meaning::Meaning;
 pub use refusal::Refusal;

@@ -114,11 +114,12 @@ extern "C" {
                                    octets: *const u8, length: u64) -> u32;
 }
 
-/// Calls a writer of the library; what only messages have comes first.
+/// Calls a writer of the library; what only messages and requests have comes first.
 macro_rules! call_writer {
     ($writer:ident($($before:ident),*), $numbers:ident, $payload:ident, $room:ident) => {
-        // SAFETY: the library reads the payload and writes the room within the lengths lent, which
-        // Rust's borrows keep apart, and keeps neither.
+        // SAFETY: the library reads the payload, and a table of channels where one is lent, and
+        // writes the room within the lengths lent, which Rust's borrows keep apart, and keeps none
+        // of them.
         unsafe {
             $writer(
                 $($before,)*
@@ -351,4 +352,178 @@ pub fn trace(query: &Query, site: &Site<'_>, room: &mut [u8]) -> u64 {
 #[inline]
 pub fn why(query: &Query, site: &Site<'_>, line: u32) -> u32 {
     call_tracer!(klumdray_why, query, site, line)
+}
+
+/// A tunnelling request reader's answer as one number: bits 0 to 7 are the refusal's number, 0 if
+/// accepted. Channel and counter are octets 7 and 8 of an accepted request.
+///
+/// ```
+/// let header = [0x06, 0x10, 0x04, 0x20, 0x00, 0x0a];
+/// let octets = [&header[..], &[0x04, 0x01, 0x00, 0x00]].concat();
+/// assert_eq!(klumdray::raw::tunnelling_request_read(&header), 12);
+/// assert_eq!(klumdray::raw::tunnelling_request_read(&octets), 1);
+/// ```
+#[inline]
+pub fn tunnelling_request_read(octets: &[u8]) -> u64 {
+    // SAFETY: the library reads the n octets lent and keeps nothing.
+    unsafe { klumdray_tunnelling_request_read(octets.as_ptr(), octets.len() as u64) }
+}
+
+/// A tunnelling request writer's answer: bits 0 to 7 the number, bits 8 to 63 the octets written.
+///
+/// ```
+/// let numbers = klumdray::raw::Numbers {
+///     extended: 0, first_sending: 1, priority: 3,
+///     source: 0, group: 1, destination: 0x1234, count: 6,
+/// };
+/// let write = klumdray::raw::tunnelling_request_write;
+/// let mut room = [0; 20];
+/// assert_eq!(write(1, 255, 0x11, 0, &numbers, &[0], &mut room), 20 << 8);
+/// assert_eq!(room[..10], [0x06, 0x10, 0x04, 0x20, 0x00, 0x14, 0x04, 0x01, 0xff, 0x00]);
+/// assert_eq!(write(1, 256, 0x11, 0, &numbers, &[0], &mut room), 14);
+/// assert_eq!(write(1, 255, 0x11, 0, &numbers, &[0, 0], &mut room), 13);
+/// ```
+#[inline]
+pub fn tunnelling_request_write(
+    channel: u32,
+    counter: u32,
+    code: u32,
+    error_mark: u32,
+    numbers: &Numbers,
+    payload: &[u8],
+    room: &mut [u8],
+) -> u64 {
+    call_writer!(
+        klumdray_tunnelling_request_write(channel, counter, code, error_mark),
+        numbers,
+        payload,
+        room
+    )
+}
+
+/// The answer of the acknowledgement's reader: bits 0 to 7 the number, bits 8 to 15 the channel,
+/// bits 16 to 23 the counter, bits 24 to 31 the status.
+///
+/// ```
+/// let octets = [0x06, 0x10, 0x04, 0x21, 0x00, 0x0a, 0x04, 0x02, 0x07, 0x29];
+/// assert_eq!(klumdray::raw::tunnelling_ack_read(&octets), 0x29_07_02_00);
+/// assert_eq!(klumdray::raw::tunnelling_ack_read(&octets[..5]), 1);
+/// ```
+#[inline]
+pub fn tunnelling_ack_read(octets: &[u8]) -> u32 {
+    // SAFETY: the library reads the n octets lent and keeps nothing.
+    unsafe { klumdray_tunnelling_ack_read(octets.as_ptr(), octets.len() as u64) }
+}
+
+/// The answer of the acknowledgement's writer: bits 0 to 7 the number, bits 8 to 63 the octets
+/// written.
+///
+/// ```
+/// let mut room = [0; 10];
+/// assert_eq!(klumdray::raw::tunnelling_ack_write(2, 7, 0x29, &mut room), 10 << 8);
+/// assert_eq!(room, [0x06, 0x10, 0x04, 0x21, 0x00, 0x0a, 0x04, 0x02, 0x07, 0x29]);
+/// assert_eq!(klumdray::raw::tunnelling_ack_write(2, 7, 256, &mut room), 14);
+/// ```
+#[inline]
+pub fn tunnelling_ack_write(channel: u32, counter: u32, status: u32, room: &mut [u8]) -> u64 {
+    let (front, length) = (room.as_mut_ptr(), room.len() as u64);
+    // SAFETY: the library writes the room within the length lent and does not keep it.
+    unsafe { klumdray_tunnelling_ack_write(channel, counter, status, front, length) }
+}
+
+/// A receive's answer: bits 0 to 7 the number; with 0, the other bits as a reader's if the request
+/// is delivered, and 0 if it is acknowledged again. The acknowledgement is at the front of the
+/// room. The table of channels is a block of 12 octets, three a channel: 01h if it is open, the
+/// receive counter, the send counter.
+///
+/// ```
+/// let octets = [
+///     0x06, 0x10, 0x04, 0x20, 0x00, 0x14, 0x04, 0x02, 0x07, 0x00,
+///     0x11, 0x00, 0xbc, 0xe0, 0x00, 0x00, 0x12, 0x34, 0x00, 0x00,
+/// ];
+/// let (mut channels, mut room) = ([0, 0, 0, 1, 7, 0, 0, 0, 0, 0, 0, 0], [0; 10]);
+/// let answer = klumdray::raw::tunnelling_receive(&mut channels, &octets, &mut room);
+/// assert_eq!(answer, klumdray::raw::tunnelling_request_read(&octets));
+/// assert_eq!(room, [0x06, 0x10, 0x04, 0x21, 0x00, 0x0a, 0x04, 0x02, 0x07, 0x00]);
+/// assert_eq!(channels[3..6], [1, 8, 0]);
+///
+/// assert_eq!(klumdray::raw::tunnelling_receive(&mut channels, &octets, &mut room), 0);
+/// assert_eq!(channels[3..6], [1, 8, 0]);
+/// assert_eq!(klumdray::raw::tunnelling_receive(&mut channels[1..], &octets, &mut room), 14);
+/// ```
+#[inline]
+pub fn tunnelling_receive(channels: &mut [u8], octets: &[u8], room: &mut [u8]) -> u64 {
+    // SAFETY: the library reads octets and writes channels and room within the lengths lent, which
+    // Rust's borrows keep apart, and keeps none of them.
+    unsafe {
+        klumdray_tunnelling_receive(
+            channels.as_mut_ptr(),
+            channels.len() as u64,
+            octets.as_ptr(),
+            octets.len() as u64,
+            room.as_mut_ptr(),
+            room.len() as u64,
+        )
+    }
+}
+
+/// A writer's answer, of a request with the channel's send counter: bits 0 to 7 the number, bits 8
+/// to 63 the octets written.
+///
+/// ```
+/// let numbers = klumdray::raw::Numbers {
+///     extended: 0, first_sending: 1, priority: 3,
+///     source: 0, group: 1, destination: 0x1234, count: 6,
+/// };
+/// let channels = [0, 0, 0, 1, 0, 7, 0, 0, 0, 0, 0, 0];
+/// let send = klumdray::raw::tunnelling_send;
+/// let mut room = [0; 20];
+/// assert_eq!(send(&channels, 2, 0x29, 0, &numbers, &[0], &mut room), 20 << 8);
+/// assert_eq!(room[6..10], [0x04, 0x02, 0x07, 0x00]);
+/// assert_eq!(send(&channels, 3, 0x29, 0, &numbers, &[0], &mut room), 20);
+/// assert_eq!(send(&channels, 300, 0x29, 0, &numbers, &[0], &mut room), 20);
+/// ```
+#[inline]
+pub fn tunnelling_send(
+    channels: &[u8],
+    channel: u32,
+    code: u32,
+    error_mark: u32,
+    numbers: &Numbers,
+    payload: &[u8],
+    room: &mut [u8],
+) -> u64 {
+    let (front, length) = (channels.as_ptr(), channels.len() as u64);
+    call_writer!(
+        klumdray_tunnelling_send(front, length, channel, code, error_mark),
+        numbers,
+        payload,
+        room
+    )
+}
+
+/// A confirm's answer: bits 0 to 7 the number, bit 8 is 1 if the send counter was raised.
+///
+/// ```
+/// let mut octets = [0x06, 0x10, 0x04, 0x21, 0x00, 0x0a, 0x04, 0x02, 0x07, 0x29];
+/// let mut channels = [0, 0, 0, 1, 0, 7, 0, 0, 0, 0, 0, 0];
+/// assert_eq!(klumdray::raw::tunnelling_confirm(&mut channels, &octets), 0);
+/// assert_eq!(channels[3..6], [1, 0, 7]);
+/// octets[9] = 0x00;
+/// assert_eq!(klumdray::raw::tunnelling_confirm(&mut channels, &octets), 1 << 8);
+/// assert_eq!(channels[3..6], [1, 0, 8]);
+/// assert_eq!(klumdray::raw::tunnelling_confirm(&mut channels, &octets), 21);
+/// ```
+#[inline]
+pub fn tunnelling_confirm(channels: &mut [u8], octets: &[u8]) -> u32 {
+    // SAFETY: the library reads octets and writes channels within the lengths lent, which Rust's
+    // borrows keep apart, and keeps neither.
+    unsafe {
+        klumdray_tunnelling_confirm(
+            channels.as_mut_ptr(),
+            channels.len() as u64,
+            octets.as_ptr(),
+            octets.len() as u64,
+        )
+    }
 }

@@ -1,6 +1,6 @@
 use core::fmt;
 
-/// A refusal, known by its number in document 01's table.
+/// A refusal, known by its number in document 01's table, as document 02 amends it.
 ///
 /// ```
 /// use klumdray::Refusal;

@@ -4,7 +4,7 @@
 use std::fs;
 use std::path::Path;
 
-use klumdray::{coupler, tp1, tracer, Refusal};
+use klumdray::{coupler, tp1, tracer, tunnelling, Refusal};
 
 const HEADER: &str = include_str!("../../../include/klumdray.h");
 const RAW: &str = include_str!("../src/raw.rs");
@@ -34,7 +34,7 @@ fn every_call_has_an_example() {
         assert!(bare.is_empty(), "{}: no example: {bare:?}", path.display());
         calls += count;
     }
-    assert!(calls >= 33, "only {calls} public functions found");
+    assert!(calls >= 51, "only {calls} public functions found");
 }
 
 /// A source without its comments.
@@ -114,7 +114,7 @@ fn the_calls_are_the_headers() {
         assert!(raw.contains(declaration), "not in raw.rs: {declaration}");
     }
     assert_eq!(declared.len(), raw.matches("fn klumdray_").count());
-    assert_eq!(declared.len(), 10);
+    assert_eq!(declared.len(), 17);
 }
 
 #[test]
@@ -128,12 +128,20 @@ fn the_sizes_are_the_headers() {
         ("RECORD", tracer::RECORD_SIZE),
         ("LISTED", tracer::LISTED_SIZE),
         ("LIST_ROOM", tracer::LIST_ROOM_SIZE),
+        ("CHANNEL", tunnelling::CHANNEL_SIZE),
+        ("CHANNELS", tunnelling::CHANNELS_SIZE),
+        ("ACK", tunnelling::ACKNOWLEDGEMENT_SIZE),
     ];
     for (name, size) in sizes {
-        let line = HEADER.lines().map(|line| line.trim().trim_end_matches(','));
-        let wanted = format!("KLUMDRAY_{name}_SIZE = {size}");
-        assert!(line.clone().any(|line| line == wanted), "{wanted}");
+        assert_has(&format!("KLUMDRAY_{name}_SIZE = {size}"));
     }
+    assert_has(&format!("KLUMDRAY_CHANNELS = {}", tunnelling::CHANNELS));
+}
+
+/// Asserts that the header has a constant with this value.
+fn assert_has(wanted: &str) {
+    let mut lines = HEADER.lines().map(|line| line.trim().trim_end_matches(','));
+    assert!(lines.any(|line| line == wanted), "{wanted}");
 }
 
 #[test]
