@@ -1,5 +1,5 @@
-//! Numbers with more bits than their ranges have: none is cut on its way, each draws 14, and room
-//! and memory stay as they were.
+//! Numbers with more bits than their ranges have: none is cut on its way, each draws 14, or 20 as a
+//! channel to send on, and room, memory and table of channels stay as they were.
 
 use klumdray::raw::{self, Numbers, Query, Setting, Site};
 
@@ -109,6 +109,76 @@ fn every_cemi_writer_number_is_refused_when_too_wide() {
 #[test]
 fn every_routing_writer_number_is_refused_when_too_wide() {
     assert_message_writer_refuses(raw::routing_write, 17);
+}
+
+/// Channel 1, with send counter 7, is open.
+const CHANNELS: [u8; 12] = [1, 3, 7, 0, 0, 0, 0, 0, 0, 0, 0, 0];
+
+#[test]
+fn every_request_writer_number_is_refused_when_too_wide() {
+    assert_message_writer_refuses(
+        |code, mark, numbers, payload, room| {
+            raw::tunnelling_request_write(1, 7, code, mark, numbers, payload, room)
+        },
+        21,
+    );
+    for bits in ABOVE_OCTET {
+        for (channel, counter) in [(1 | bits, 7), (1, 7 | bits)] {
+            let what = format!("channel {channel:#x}, counter {counter:#x}");
+            assert_refused(&what, |room| {
+                let numbers = &NUMBERS;
+                raw::tunnelling_request_write(
+                    channel, counter, INDICATION, 0, numbers, &PAYLOAD, room,
+                )
+            });
+        }
+    }
+}
+
+#[test]
+fn every_sender_number_is_refused_when_too_wide() {
+    assert_message_writer_refuses(
+        |code, mark, numbers, payload, room| {
+            raw::tunnelling_send(&CHANNELS, 1, code, mark, numbers, payload, room)
+        },
+        21,
+    );
+}
+
+/// A channel has no range: a number that is no channel's is not open, behind 14 and before 13.
+#[test]
+fn a_channel_that_is_too_wide_is_not_open() {
+    let wider = Numbers {
+        count: 6 | 1 << 8,
+        ..NUMBERS
+    };
+    for bits in ABOVE_OCTET {
+        for lent in [0, 20, 300] {
+            let mut room = pattern::<300>();
+            let mut send = |numbers| {
+                let room = &mut room[..lent];
+                raw::tunnelling_send(&CHANNELS, 1 | bits, INDICATION, 0, numbers, &PAYLOAD, room)
+            };
+            assert_eq!(send(&NUMBERS), 20, "channel with {bits:#x}, room of {lent}");
+            assert_eq!(send(&wider), 14, "channel with {bits:#x}, room of {lent}");
+            assert_eq!(room, pattern(), "channel with {bits:#x}, room of {lent}");
+        }
+    }
+}
+
+#[test]
+fn every_acknowledgement_number_is_refused_when_too_wide() {
+    assert_eq!(raw::tunnelling_ack_write(1, 7, 0, &mut [0; 10]), 10 << 8);
+    for bits in ABOVE_OCTET {
+        for place in 0..3 {
+            let mut numbers = [1, 7, 0];
+            numbers[place] |= bits;
+            let [channel, counter, status] = numbers;
+            assert_refused(&format!("{numbers:#x?}"), |room| {
+                raw::tunnelling_ack_write(channel, counter, status, room)
+            });
+        }
+    }
 }
 
 /// Open both ways.
