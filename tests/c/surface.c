@@ -1,7 +1,7 @@
 /*
  * The C surface as a C program meets it: empty slices, document 01's P1 to P6, P7's datagram, steps
- * of a coupler with P7 to P10, sites with P12 and P13, numbers with more bits than their ranges
- * have, and slices that overlap or adjoin.
+ * of a coupler with P7 to P10, sites with P12 and P13, tunnelling on four channels, numbers with
+ * more bits than their ranges have, and slices that overlap or adjoin.
  *
  * It also runs on boards: no assumption about the width of a pointer, and of the C library only
  * memcpy, memset, memcmp, strcmp and printf with %s and %u.
@@ -118,6 +118,9 @@ static void words(void)
     check("0 in words", strcmp(klumdray_words(0), "not a refusal") == 0);
     check("6 in words", strcmp(klumdray_words(6), "wrong check octet") == 0);
     check("18 in words", strcmp(klumdray_words(18), "filter table missing or of wrong size") == 0);
+    check("21 in words",
+          strcmp(klumdray_words(21), "counter not one that the channel awaits") == 0);
+    check("22 is no number", strcmp(klumdray_words(22), "not a number of these calls") == 0);
     check("255 is no number", strcmp(klumdray_words(255), "not a number of these calls") == 0);
 }
 
@@ -245,6 +248,10 @@ static void helpers(void)
     TAKES_OF(uint32_t, klumdray_reason, 8, 8);
     TAKES_OF(uint32_t, klumdray_stopping_line, 16, 8);
     TAKES_OF(uint32_t, klumdray_stopping_side, 24, 1);
+    TAKES_OF(uint32_t, klumdray_ack_channel, 8, 8);
+    TAKES_OF(uint32_t, klumdray_ack_counter, 16, 8);
+    TAKES_OF(uint32_t, klumdray_ack_status, 24, 8);
+    TAKES_OF(uint32_t, klumdray_raised, 8, 1);
     check("an extended payload begins at octet 7", klumdray_tp1_payload_start(1u << 8) == 7);
     check("a datagram's information begins at octet 8", klumdray_routing_information_start() == 8);
     check("1 is the octet 11h", klumdray_message_code((uint64_t)KLUMDRAY_REQUEST << 56) == 0x11);
@@ -695,6 +702,529 @@ static void reasons(void)
                      KLUMDRAY_MAIN));
 }
 
+/* P7's message in a request with counter 0 on channel 1, and an acknowledgement of that request. */
+static const uint8_t REQUEST[24] = {0x06, 0x10, 0x04, 0x20, 0x00, 0x18, 0x04, 0x01,
+                                    0x00, 0x00, 0x29, 0x00, 0xBC, 0xC0, 0x00, 0x00,
+                                    0x12, 0x34, 0x04, 0x00, 0x80, 0x56, 0x78, 0x9A};
+static const uint8_t ACK[KLUMDRAY_ACK_SIZE] = {0x06, 0x10, 0x04, 0x21, 0x00,
+                                               0x0A, 0x04, 0x01, 0x00, 0x00};
+
+/* Octets received, more than are lent of them. */
+struct datagram {
+    uint8_t octets[sizeof REQUEST + 4];
+};
+
+static struct datagram request(uint8_t channel, uint8_t counter)
+{
+    struct datagram d;
+    memset(&d, 0x55, sizeof d);
+    memcpy(d.octets, REQUEST, sizeof REQUEST);
+    d.octets[7] = channel;
+    d.octets[8] = counter;
+    return d;
+}
+
+static struct datagram acknowledgement(uint8_t channel, uint8_t counter, uint8_t status)
+{
+    struct datagram d;
+    memset(&d, 0x55, sizeof d);
+    memcpy(d.octets, ACK, sizeof ACK);
+    d.octets[7] = channel;
+    d.octets[8] = counter;
+    d.octets[9] = status;
+    return d;
+}
+
+static void requests_read(void)
+{
+    struct datagram d = request(3, 0xFF);
+    uint64_t answer = klumdray_tunnelling_request_read(d.octets, sizeof REQUEST);
+    check("a request is accepted", klumdray_number(answer) == 0);
+    check("its answer is its message's", answer == klumdray_cemi_read(P7 + 6, sizeof P7 - 6));
+    check("its channel is read", klumdray_tunnelling_channel(d.octets) == 3);
+    check("its counter is read", klumdray_tunnelling_counter(d.octets) == 0xFF);
+    check("its message begins at octet 10", klumdray_tunnelling_message_start() == 10);
+    check("its payload is P1's",
+          klumdray_tunnelling_payload_start(answer, sizeof REQUEST) == 19 &&
+              memcmp(d.octets + 19, P1 + 6, klumdray_payload_length(answer)) == 0);
+    check("it has no information",
+          klumdray_tunnelling_information_length(answer, sizeof REQUEST) == 0);
+    d.octets[9] = 0xFF;
+    check("its octet 00h is not read",
+          klumdray_tunnelling_request_read(d.octets, sizeof REQUEST) == answer);
+    d.octets[10] = 0x11;
+    check("a request's 11h is read",
+          klumdray_message_code(klumdray_tunnelling_request_read(d.octets, 24)) == 0x11);
+    d.octets[10] = 0x2E;
+    d.octets[12] |= 1u;
+    answer = klumdray_tunnelling_request_read(d.octets, 24);
+    check("a confirmation's 2Eh and its error mark are read",
+          klumdray_message_code(answer) == 0x2E && klumdray_error_mark(answer) == 1);
+}
+
+static void information_read(void)
+{
+    static const uint8_t octets[] = {0x06, 0x10, 0x04, 0x20, 0x00, 0x17, 0x04, 0x01,
+                                     0x00, 0x00, 0x29, 0x03, 0x01, 0x02, 0x03, 0xBC,
+                                     0xC0, 0x00, 0x00, 0x12, 0x34, 0x00, 0x7F};
+    size_t n = sizeof octets;
+    uint64_t answer = klumdray_tunnelling_request_read(octets, n);
+    check("a request with information is accepted", klumdray_number(answer) == 0);
+    check("a request's information begins at octet 12",
+          klumdray_tunnelling_information_start() == 12);
+    check("it has 3 octets of it", klumdray_tunnelling_information_length(answer, n) == 3);
+    check("and its last octet is its payload",
+          klumdray_tunnelling_payload_start(answer, n) == n - 1);
+}
+
+/*
+ * A datagram with a fault for every number up to 19, of which the first is mended again and again:
+ * so each number is seen to come before all those behind it. The rest is judged by its channel.
+ */
+struct rung {
+    size_t n;
+    uint8_t number;
+    uint8_t place, mended;
+};
+
+enum { RUNGS = 7 };
+
+static const struct rung LADDER[RUNGS] = {
+    {5, 1, 0, 0x07},  {9, 10, 0, 0x06}, {9, 10, 1, 0x10},  {9, 11, 2, 0x04},
+    {9, 12, 5, 0x09}, {9, 1, 5, 0x0B},  {11, 19, 6, 0x04},
+};
+
+/* The octets before any is mended, of a request (20h) or an acknowledgement (21h). */
+static struct datagram faulty(uint8_t service)
+{
+    static const uint8_t front[] = {0x07, 0x11, 0x05, 0x00, 0x00, 0x00, 0x05, 0x05, 0x80, 0x80};
+    struct datagram d;
+    memset(&d, 0xFF, sizeof d);
+    memcpy(d.octets, front, sizeof front);
+    d.octets[3] = service;
+    return d;
+}
+
+/* A number that a datagram draws, 255 where something was written nevertheless. */
+typedef uint64_t judge(struct datagram *d, size_t n);
+
+static uint64_t judge_request(struct datagram *d, size_t n)
+{
+    return klumdray_tunnelling_request_read(d->octets, n);
+}
+
+static uint64_t judge_ack(struct datagram *d, size_t n)
+{
+    return klumdray_tunnelling_ack_read(d->octets, n);
+}
+
+/* Climbs the ladder; what is left is 11 octets long and has no fault up to 19. */
+static void climb(const char *whose, judge *call, struct datagram *d)
+{
+    size_t i;
+    int holds = 1;
+    for (i = 0; i < RUNGS; i++) {
+        holds &= call(d, LADDER[i].n) == LADDER[i].number;
+        d->octets[LADDER[i].place] = LADDER[i].mended;
+    }
+    count(holds);
+    printf(" %s refuses by 1, 10, 11, 12, 1, 19 in this order\n", whose);
+}
+
+static void readers_refuse(void)
+{
+    struct datagram d = faulty(0x20);
+    climb("klumdray_tunnelling_request_read", judge_request, &d);
+    check("then by the message's 7", judge_request(&d, 11) == 7);
+    d.octets[10] = 0x29;
+    check("and its 1", judge_request(&d, 11) == 1);
+    d.octets[5] = 10;
+    check("a request of 10 octets is 1", judge_request(&d, 10) == 1);
+    d = faulty(0x21);
+    climb("klumdray_tunnelling_ack_read", judge_ack, &d);
+    check("then by 5", judge_ack(&d, 11) == 5);
+    d.octets[5] = 10;
+    check("an acknowledgement of any channel and counter is read",
+          judge_ack(&d, 10) == 0x80800500u);
+    check("an acknowledgement is 11 as a request", judge_request(&d, 10) == 11);
+    check("a request is 11 as an acknowledgement",
+          klumdray_tunnelling_ack_read(REQUEST, sizeof REQUEST) == 11);
+    check("null slices are 1", klumdray_tunnelling_request_read(NULL, 0) == 1 &&
+                                   klumdray_tunnelling_ack_read(NULL, 0) == 1);
+}
+
+static uint64_t write_request(uint8_t *room, size_t m)
+{
+    return klumdray_tunnelling_request_write(1, 0, 0x29, 0, 0, 1, 3, 0, 1, 0x1234, 4, P1 + 6, 5,
+                                             room, m);
+}
+
+static void requests_written(void)
+{
+    uint8_t room[sizeof REQUEST + 2];
+    uint64_t answer;
+    memset(room, 0x55, sizeof room);
+    check("a request into 23 octets is 13", write_request(room + 1, 23) == 13);
+    check("a request into a null room is 13", write_request(NULL, 0) == 13);
+    check("channel 256 is 14 before 13",
+          klumdray_tunnelling_request_write(256, 0, 0x29, 0, 0, 1, 3, 0, 1, 0x1234, 4, P1 + 6, 5,
+                                            NULL, 0) == 14);
+    check("refused requests write nothing", untouched(room, sizeof room));
+    answer = write_request(room + 1, 24);
+    check("a request is 24 octets", answer == 24u << 8 && klumdray_written(answer) == 24);
+    check("a request is written", memcmp(room + 1, REQUEST, sizeof REQUEST) == 0);
+    check("octets around it stay", room[0] == 0x55 && room[25] == 0x55);
+    memset(room, 0x55, sizeof room);
+    check("a request into 25 octets is 24", write_request(room, 25) == 24u << 8);
+    check("octets behind it stay", room[24] == 0x55 && room[25] == 0x55);
+}
+
+static void acknowledgements_written(void)
+{
+    static const uint8_t highest[] = {0x06, 0x10, 0x04, 0x21, 0x00, 0x0A, 0x04, 0xFF, 0xFF, 0xFF};
+    uint8_t room[KLUMDRAY_ACK_SIZE + 2];
+    uint32_t answer;
+    memset(room, 0x55, sizeof room);
+    check("an acknowledgement into 9 octets is 13",
+          klumdray_tunnelling_ack_write(1, 0, 0, room + 1, 9) == 13);
+    check("status 256 is 14 before 13", klumdray_tunnelling_ack_write(1, 0, 256, NULL, 0) == 14);
+    check("refused acknowledgements write nothing", untouched(room, sizeof room));
+    check("an acknowledgement is 10 octets",
+          klumdray_tunnelling_ack_write(1, 0, 0, room + 1, 10) == 10u << 8);
+    check("it is written", memcmp(room + 1, ACK, sizeof ACK) == 0);
+    check("octets around it stay as they were", room[0] == 0x55 && room[11] == 0x55);
+    check("with 255 three times it is written",
+          klumdray_tunnelling_ack_write(255, 255, 255, room, 11) == 10u << 8 &&
+              memcmp(room, highest, 10) == 0 && room[11] == 0x55);
+    answer = klumdray_tunnelling_ack_read(room, 10);
+    check("and read", klumdray_number(answer) == 0 && klumdray_ack_channel(answer) == 255 &&
+                          klumdray_ack_counter(answer) == 255 &&
+                          klumdray_ack_status(answer) == 255);
+    check("channel, counter and status are told apart",
+          klumdray_tunnelling_ack_write(2, 7, 0x29, room, 10) == 10u << 8 &&
+              klumdray_tunnelling_ack_read(room, 10) == 0x29070200);
+}
+
+/* A table of channels and a room, each with octets behind it that are not lent. */
+struct tunnel {
+    uint8_t channels[KLUMDRAY_CHANNELS_SIZE + 1];
+    uint8_t room[KLUMDRAY_ACK_SIZE + 2];
+};
+
+/* All four channels open: receive counters 0, 1, 128, 255 and send counters 255, 2, 0, 129. */
+static struct tunnel tunnel(void)
+{
+    static const uint8_t channels[] = {1, 0, 255, 1, 1, 2, 1, 128, 0, 1, 255, 129};
+    struct tunnel t;
+    memset(&t, 0x55, sizeof t);
+    memcpy(t.channels, channels, sizeof channels);
+    return t;
+}
+
+static uint64_t receive(struct tunnel *t, const uint8_t *octets, size_t n)
+{
+    return klumdray_tunnelling_receive(t->channels, KLUMDRAY_CHANNELS_SIZE, octets, n, t->room,
+                                       KLUMDRAY_ACK_SIZE);
+}
+
+static uint32_t confirm(struct tunnel *t, const uint8_t *octets, size_t n)
+{
+    return klumdray_tunnelling_confirm(t->channels, KLUMDRAY_CHANNELS_SIZE, octets, n);
+}
+
+/* Whether a table is as it was before but for one counter, which is one more. */
+static int is_raised(const struct tunnel *t, struct tunnel before, size_t place)
+{
+    before.channels[place]++;
+    return memcmp(t->channels, before.channels, sizeof t->channels) == 0;
+}
+
+/* Whether the room has the acknowledgement of a datagram, and nothing behind it. */
+static int is_acknowledged(const struct tunnel *t, const struct datagram *d)
+{
+    struct datagram a = acknowledgement(d->octets[7], d->octets[8], 0x00);
+    return memcmp(t->room, a.octets, KLUMDRAY_ACK_SIZE) == 0 &&
+           untouched(t->room + KLUMDRAY_ACK_SIZE, sizeof t->room - KLUMDRAY_ACK_SIZE);
+}
+
+static int is_received(uint32_t channel)
+{
+    struct tunnel t = tunnel(), before = t;
+    uint8_t expected = klumdray_channel_receive(t.channels, channel);
+    struct datagram d = request((uint8_t)channel, expected);
+    uint64_t answer = receive(&t, d.octets, sizeof REQUEST);
+    return answer == klumdray_tunnelling_request_read(d.octets, sizeof REQUEST) &&
+           klumdray_number(answer) == 0 && klumdray_delivered(answer) == 1 &&
+           is_raised(&t, before, 3 * (channel - 1) + 1) && is_acknowledged(&t, &d) &&
+           klumdray_channel_receive(t.channels, channel) == (uint8_t)(expected + 1);
+}
+
+static int is_received_again(uint32_t channel)
+{
+    struct tunnel t = tunnel(), before = t;
+    uint8_t behind = (uint8_t)(klumdray_channel_receive(t.channels, channel) - 1);
+    struct datagram d = request((uint8_t)channel, behind);
+    uint64_t answer = receive(&t, d.octets, sizeof REQUEST);
+    return answer == 0 && klumdray_delivered(answer) == 0 && is_acknowledged(&t, &d) &&
+           memcmp(t.channels, before.channels, sizeof t.channels) == 0;
+}
+
+/* Whether every other counter of a channel is 21, and leaves table and room. */
+static int is_refused_otherwise(uint32_t channel)
+{
+    struct tunnel t = tunnel(), before = t;
+    unsigned ahead;
+    int holds = 1;
+    for (ahead = 1; ahead < 255; ahead++) {
+        uint8_t counter = (uint8_t)(klumdray_channel_receive(t.channels, channel) + ahead);
+        struct datagram d = request((uint8_t)channel, counter);
+        holds &= receive(&t, d.octets, sizeof REQUEST) == 21;
+    }
+    return holds && memcmp(&t, &before, sizeof t) == 0;
+}
+
+static void requests_received(void)
+{
+    uint32_t channel;
+    int expected = 1, behind = 1, otherwise = 1, bit, delivered = 1;
+    for (channel = 1; channel <= KLUMDRAY_CHANNELS; channel++) {
+        expected &= is_received(channel);
+        behind &= is_received_again(channel);
+        otherwise &= is_refused_otherwise(channel);
+    }
+    check("the expected counter is delivered, acknowledged and raised on each channel", expected);
+    check("one behind is acknowledged again and changes nothing", behind);
+    check("every other counter is 21 and writes nothing", otherwise);
+    for (bit = 0; bit < 64; bit++)
+        delivered &= klumdray_delivered((uint64_t)1 << bit) == (bit == 56 || bit == 57);
+    check("klumdray_delivered asks for the message code", delivered);
+}
+
+/* Each request twice, so often that the counter goes round more than twice. */
+static void counters_go_round(void)
+{
+    struct tunnel t = tunnel();
+    uint8_t *channel = t.channels + 3;
+    unsigned i;
+    int delivered = 1, again = 1, raised = 1;
+    channel[1] = channel[2] = 0;
+    for (i = 0; i < 600; i++) {
+        struct datagram d = request(2, (uint8_t)i), a = acknowledgement(2, (uint8_t)i, 0);
+        delivered &= klumdray_delivered(receive(&t, d.octets, sizeof REQUEST));
+        again &= receive(&t, d.octets, sizeof REQUEST) == 0;
+        raised &= confirm(&t, a.octets, sizeof ACK) == 1u << 8;
+        raised &= confirm(&t, a.octets, sizeof ACK) == 21;
+    }
+    check("600 requests in order are delivered once each", delivered && again);
+    check("600 acknowledgements in order raise the send counter once each", raised);
+    check("then both counters are 600 less 512",
+          klumdray_channel_receive(t.channels, 2) == 88 &&
+              klumdray_channel_send(t.channels, 2) == 88);
+}
+
+/* On a fresh channel 255 is one behind, although nothing was received. */
+static void fresh_channels(void)
+{
+    struct tunnel t = tunnel(), before;
+    struct datagram d = request(3, 255);
+    memset(t.channels, 0, KLUMDRAY_CHANNELS_SIZE);
+    check("at the start every channel is closed",
+          !klumdray_channel_open(t.channels, 1) && !klumdray_channel_open(t.channels, 4) &&
+              receive(&t, d.octets, sizeof REQUEST) == 20);
+    t.channels[6] = 1;
+    before = t;
+    check("a channel is opened by 01h", klumdray_channel_open(t.channels, 3));
+    check("255 is one behind on a fresh channel",
+          receive(&t, d.octets, sizeof REQUEST) == 0 && is_acknowledged(&t, &d) &&
+              memcmp(t.channels, before.channels, sizeof t.channels) == 0);
+    d = request(3, 0);
+    check("0 is expected there", klumdray_delivered(receive(&t, d.octets, sizeof REQUEST)));
+}
+
+static uint64_t send(const struct tunnel *t, uint32_t channel, uint8_t *room, size_t m)
+{
+    return klumdray_tunnelling_send(t->channels, KLUMDRAY_CHANNELS_SIZE, channel, 0x29, 0, 0, 1, 3,
+                                    0, 1, 0x1234, 4, P1 + 6, 5, room, m);
+}
+
+/* Whether a channel of this number is 20 to all three calls, and everything stays. */
+static int is_closed(struct tunnel *t, uint32_t channel)
+{
+    struct tunnel before = *t;
+    struct datagram d = request((uint8_t)channel, 0), a = acknowledgement((uint8_t)channel, 0, 0);
+    uint8_t room[sizeof REQUEST];
+    memset(room, 0x55, sizeof room);
+    return receive(t, d.octets, sizeof REQUEST) == 20 && confirm(t, a.octets, sizeof ACK) == 20 &&
+           send(t, channel, room, sizeof room) == 20 && memcmp(t, &before, sizeof *t) == 0 &&
+           untouched(room, sizeof room);
+}
+
+static void closed_channels(void)
+{
+    static const uint8_t none[] = {0, 5, 6, 16, 17, 128, 254, 255};
+    static const uint8_t values[] = {0, 2, 3, 128, 255};
+    struct tunnel t = tunnel();
+    size_t i;
+    int holds = 1;
+    for (i = 0; i < sizeof none; i++)
+        holds &= is_closed(&t, none[i]);
+    check("a number that is no channel's is 20 although all four are open", holds);
+    for (i = 0, holds = 1; i < sizeof values; i++) {
+        t.channels[3] = values[i];
+        t.channels[4] = t.channels[5] = 0;
+        holds &= is_closed(&t, 2) && !klumdray_channel_open(t.channels, 2);
+    }
+    check("an open octet other than 01h is closed", holds);
+    check("a channel of more than 8 bits is not open",
+          send(&t, 0x101, t.room, sizeof t.room) == 20 && send(&t, 300, t.room, 0) == 20 &&
+              send(&t, 0x80000001, NULL, 0) == 20);
+}
+
+/* A tunnel for the judges below, whose tables and rooms must stay. */
+static struct tunnel judged;
+
+static uint64_t judge_received(struct datagram *d, size_t n)
+{
+    struct tunnel before = judged;
+    uint64_t answer = receive(&judged, d->octets, n);
+    return memcmp(&judged, &before, sizeof judged) == 0 ? answer : 255;
+}
+
+static uint64_t judge_confirmed(struct datagram *d, size_t n)
+{
+    struct tunnel before = judged;
+    uint64_t answer = confirm(&judged, d->octets, n);
+    return memcmp(&judged, &before, sizeof judged) == 0 ? answer : 255;
+}
+
+static void refused_requests(void)
+{
+    struct datagram d = faulty(0x20);
+    judged = tunnel();
+    climb("klumdray_tunnelling_receive", judge_received, &d);
+    check("then by 20", judge_received(&d, 11) == 20);
+    d.octets[7] = 4;
+    check("then by 21", judge_received(&d, 11) == 21);
+    d.octets[8] = 255;
+    check("then by the message's 7 with the expected counter", judge_received(&d, 11) == 7);
+    d.octets[8] = 254;
+    check("and with one behind", judge_received(&d, 11) == 7);
+    d.octets[5] = 10;
+    check("a request of 10 octets one behind is 1", judge_received(&d, 10) == 1);
+    d.octets[8] = 253;
+    check("with another counter it is 21", judge_received(&d, 10) == 21);
+    d = request(4, 255);
+    d.octets[11] = 0xFF;
+    check("a = 255 in the expected one is 8", judge_received(&d, sizeof REQUEST) == 8);
+    d = request(4, 254);
+    d.octets[5]++;
+    check("octets left in one behind are 5", judge_received(&d, sizeof REQUEST + 1) == 5);
+}
+
+static void refused_acknowledgements(void)
+{
+    struct datagram d = faulty(0x21);
+    judged = tunnel();
+    climb("klumdray_tunnelling_confirm", judge_confirmed, &d);
+    check("then by 20 too", judge_confirmed(&d, 11) == 20);
+    d.octets[7] = 4;
+    check("then by 21 too", judge_confirmed(&d, 11) == 21);
+    d.octets[8] = 129;
+    check("then by 5 too", judge_confirmed(&d, 11) == 5);
+    d.octets[5] = 10;
+    check("a status of 80h is accepted and changes nothing", judge_confirmed(&d, 10) == 0);
+    d.octets[8] = 128;
+    check("with one behind it is 21", judge_confirmed(&d, 10) == 21);
+    d.octets[8] = 130;
+    check("and with one ahead", judge_confirmed(&d, 10) == 21);
+}
+
+/* Every status on each channel. */
+static void statuses(void)
+{
+    uint32_t channel;
+    unsigned status;
+    int holds = 1;
+    for (channel = 1; channel <= KLUMDRAY_CHANNELS; channel++)
+        for (status = 0; status < 256; status++) {
+            struct tunnel t = tunnel(), before = t;
+            uint8_t counter = klumdray_channel_send(t.channels, channel);
+            struct datagram a = acknowledgement((uint8_t)channel, counter, (uint8_t)status);
+            uint32_t answer = confirm(&t, a.octets, sizeof ACK);
+            holds &= klumdray_number(answer) == 0 && klumdray_raised(answer) == (status == 0) &&
+                     answer >> 9 == 0;
+            holds &= status == 0 ? is_raised(&t, before, 3 * (channel - 1) + 2)
+                                 : memcmp(&t, &before, sizeof t) == 0;
+        }
+    check("status 00h alone raises the send counter, of its channel alone", holds);
+}
+
+/* The table's length is the first thing that is judged. */
+static void lengths_of_tables(void)
+{
+    struct tunnel t = tunnel(), before = t;
+    struct datagram d = request(1, 0), a = acknowledgement(1, 255, 0);
+    size_t n;
+    int received = 1, confirmed = 1, sent = 1;
+    for (n = 0; n <= 13; n += n < 11 ? 11 : 2) {
+        uint8_t *channels = n == 0 ? NULL : t.channels;
+        received &= klumdray_tunnelling_receive(channels, n, d.octets, 24, t.room, 10) == 14;
+        received &= klumdray_tunnelling_receive(channels, n, NULL, 0, NULL, 0) == 14;
+        confirmed &= klumdray_tunnelling_confirm(channels, n, a.octets, 10) == 14;
+        confirmed &= klumdray_tunnelling_confirm(channels, n, NULL, 0) == 14;
+        sent &= klumdray_tunnelling_send(channels, n, 5, 0x29, 0, 0, 1, 3, 0, 1, 0x1234, 4, P1 + 6,
+                                         5, NULL, 0) == 14;
+    }
+    check("a table of 0, 11 or 13 octets is 14 before 13 and 1", received);
+    check("also where an acknowledgement arrives", confirmed);
+    check("also in sending, before 20 and 13", sent);
+    check("such tables and their rooms stay", memcmp(&t, &before, sizeof t) == 0);
+}
+
+/* Then the room. */
+static void rooms_of_receivers(void)
+{
+    struct tunnel t = tunnel(), before = t;
+    struct datagram d = request(1, 0), closed = request(5, 9);
+    uint8_t *c = t.channels;
+    check("a room of 9 octets is 13",
+          klumdray_tunnelling_receive(c, 12, d.octets, 24, t.room, 9) == 13);
+    check("a null room is 13 before 1",
+          klumdray_tunnelling_receive(c, 12, NULL, 0, NULL, 0) == 13);
+    check("a room of 9 octets is 13 before 20 and 21",
+          klumdray_tunnelling_receive(c, 12, closed.octets, 24, t.room, 9) == 13);
+    check("such rooms and their tables stay", memcmp(&t, &before, sizeof t) == 0);
+    check("a room of 11 octets is written as far as the tenth",
+          klumdray_delivered(klumdray_tunnelling_receive(c, 12, d.octets, 24, t.room, 11)) &&
+              is_acknowledged(&t, &d) && is_raised(&t, before, 1));
+}
+
+static void requests_sent(void)
+{
+    struct tunnel t = tunnel(), before = t;
+    struct datagram d = request(2, 2);
+    uint8_t room[sizeof REQUEST + 2];
+    memset(room, 0x55, sizeof room);
+    check("sending into 23 octets is 13", send(&t, 2, room + 1, 23) == 13);
+    check("sending into a null room is 13", send(&t, 2, NULL, 0) == 13);
+    check("a closed channel is 20 before 13", send(&t, 0, NULL, 0) == 20);
+    check("code 2Bh is 14 before 20 and 13",
+          klumdray_tunnelling_send(t.channels, 12, 0, 0x2B, 0, 0, 1, 3, 0, 1, 0x1234, 4, P1 + 6, 5,
+                                   NULL, 0) == 14);
+    check("an empty payload too",
+          klumdray_tunnelling_send(t.channels, 12, 0, 0x29, 0, 0, 1, 3, 0, 1, 0x1234, 4, NULL, 0,
+                                   NULL, 0) == 14);
+    check("refused sendings write nothing", untouched(room, sizeof room));
+    check("a request goes out with the send counter",
+          send(&t, 2, room + 1, 24) == 24u << 8 && memcmp(room + 1, d.octets, 24) == 0);
+    check("it is written between its neighbours", room[0] == 0x55 && room[25] == 0x55);
+    memset(room, 0x55, sizeof room);
+    check("sent again it has the same counter",
+          send(&t, 2, room, 25) == 24u << 8 && memcmp(room, d.octets, 24) == 0);
+    check("and nothing is written behind it", room[24] == 0x55 && room[25] == 0x55);
+    check("sending leaves the table", memcmp(&t, &before, sizeof t) == 0);
+}
+
 /* A number in its range; one of 16 bits has no wider one below 65,536. */
 struct number {
     const char *name;
@@ -702,11 +1232,19 @@ struct number {
     int has_16_bits;
 };
 
-/* Those of a writer of messages; a writer of TP1 frames lacks the first two. */
+/* Those of a writer of messages; a writer of TP1 frames lacks the first two, and only a writer of
+ * requests has the last two. */
 static const struct number GIVEN[] = {
     {"code", 0x29, 0},       {"error_mark", 0, 0},       {"extended", 0, 0},
     {"first_sending", 1, 0}, {"priority", 3, 0},         {"source", 0, 1},
     {"group", 1, 0},         {"destination", 0x1234, 1}, {"count", 4, 0},
+    {"channel", 1, 0},       {"counter", 0, 0},
+};
+
+static const struct number ACKNOWLEDGED[] = {
+    {"channel", 1, 0},
+    {"counter", 0, 0},
+    {"status", 0, 0},
 };
 
 static const struct number ASKED[] = {
@@ -734,6 +1272,24 @@ static uint64_t routing_of(const uint32_t *n, uint8_t *room, size_t m)
 {
     return klumdray_routing_write(n[0], n[1], n[2], n[3], n[4], n[5], n[6], n[7], n[8], P1 + 6, 5,
                                   room, m);
+}
+
+static uint64_t request_of(const uint32_t *n, uint8_t *room, size_t m)
+{
+    return klumdray_tunnelling_request_write(n[9], n[10], n[0], n[1], n[2], n[3], n[4], n[5], n[6],
+                                             n[7], n[8], P1 + 6, 5, room, m);
+}
+
+static uint64_t send_of(const uint32_t *n, uint8_t *room, size_t m)
+{
+    struct tunnel t = tunnel();
+    return klumdray_tunnelling_send(t.channels, KLUMDRAY_CHANNELS_SIZE, 1, n[0], n[1], n[2], n[3],
+                                    n[4], n[5], n[6], n[7], n[8], P1 + 6, 5, room, m);
+}
+
+static uint64_t ack_of(const uint32_t *n, uint8_t *room, size_t m)
+{
+    return klumdray_tunnelling_ack_write(n[0], n[1], n[2], room, m);
 }
 
 static uint64_t trace_of(const uint32_t *n, uint8_t *room, size_t m)
@@ -786,6 +1342,9 @@ static void wide_numbers_of_writers(void)
     wide_numbers("klumdray_tp1_write", tp1_of, GIVEN, 2, 9);
     wide_numbers("klumdray_cemi_write", cemi_of, GIVEN, 0, 9);
     wide_numbers("klumdray_routing_write", routing_of, GIVEN, 0, 9);
+    wide_numbers("klumdray_tunnelling_request_write", request_of, GIVEN, 0, 11);
+    wide_numbers("klumdray_tunnelling_send", send_of, GIVEN, 0, 9);
+    wide_numbers("klumdray_tunnelling_ack_write", ack_of, ACKNOWLEDGED, 0, 3);
 }
 
 /* In its order: behind 15 and 18, before 13. */
@@ -876,6 +1435,7 @@ struct form {
     }
 #define FRAME 0, 1, 3, 0x0000, 1, 0x1234, 3
 #define MESSAGE 0x29, 0, FRAME
+#define REQUESTED 1, 0, MESSAGE
 
 WRITER(tp1_write, FRAME)
 WRITER(tp1_write_checked, FRAME)
@@ -883,6 +1443,42 @@ WRITER(cemi_write, MESSAGE)
 WRITER(cemi_write_checked, MESSAGE)
 WRITER(routing_write, MESSAGE)
 WRITER(routing_write_checked, MESSAGE)
+WRITER(tunnelling_request_write, REQUESTED)
+WRITER(tunnelling_request_write_checked, REQUESTED)
+
+static uint64_t receive_of(const struct slice *s)
+{
+    return klumdray_tunnelling_receive(s[0].octets, s[0].n, s[1].octets, s[1].n, s[2].octets,
+                                       s[2].n);
+}
+
+static uint64_t receive_checked(const struct slice *s)
+{
+    return klumdray_tunnelling_receive_checked(s[0].octets, s[0].n, s[1].octets, s[1].n,
+                                               s[2].octets, s[2].n);
+}
+
+static uint64_t send_message(const struct slice *s)
+{
+    return klumdray_tunnelling_send(s[0].octets, s[0].n, 1, MESSAGE, s[1].octets, s[1].n,
+                                    s[2].octets, s[2].n);
+}
+
+static uint64_t send_message_checked(const struct slice *s)
+{
+    return klumdray_tunnelling_send_checked(s[0].octets, s[0].n, 1, MESSAGE, s[1].octets, s[1].n,
+                                            s[2].octets, s[2].n);
+}
+
+static uint64_t confirm_of(const struct slice *s)
+{
+    return klumdray_tunnelling_confirm(s[0].octets, s[0].n, s[1].octets, s[1].n);
+}
+
+static uint64_t confirm_checked(const struct slice *s)
+{
+    return klumdray_tunnelling_confirm_checked(s[0].octets, s[0].n, s[1].octets, s[1].n);
+}
 
 static uint64_t step_of(const struct slice *s)
 {
@@ -912,6 +1508,13 @@ static const uint8_t BY_TABLE[KLUMDRAY_SETTINGS_SIZE] = {0x11, 2, 2, 1, 1, 2, 2,
 static const uint8_t BY_PROJECT[] = {0x43, 0x50, 0x40, 2, 2, 1, 1, 2, 2, 1, 1, 0};
 static const uint8_t BY_OWN[] = {0x43, 0x50, 0x40, 2, 2, 1, 1, 2, 2, 1, 1, 128};
 
+/* Channel 1 is open and fresh. */
+static const uint8_t OPENED[KLUMDRAY_CHANNELS_SIZE] = {1};
+
+#define CHANNELS(is_written)                                                                       \
+    {                                                                                              \
+        "channels", sizeof OPENED, OPENED, sizeof OPENED, 0, is_written                            \
+    }
 #define PAYLOAD                                                                                    \
     {                                                                                              \
         "payload", 5, P1 + 6, 5, 0, 0                                                              \
@@ -960,6 +1563,26 @@ static const struct form FORMS[] = {
      trace_site_checked,
      4,
      {SITE(BY_OWN), NONE("project"), TABLE("own"), ROOM(KLUMDRAY_LIST_ROOM_SIZE)}},
+    {"klumdray_tunnelling_request_write_checked",
+     tunnelling_request_write,
+     tunnelling_request_write_checked,
+     2,
+     {PAYLOAD, ROOM(28)}},
+    {"klumdray_tunnelling_receive_checked",
+     receive_of,
+     receive_checked,
+     3,
+     {CHANNELS(1), {"octets", sizeof REQUEST, REQUEST, sizeof REQUEST, 0, 0}, ROOM(12)}},
+    {"klumdray_tunnelling_send_checked",
+     send_message,
+     send_message_checked,
+     3,
+     {CHANNELS(0), PAYLOAD, ROOM(28)}},
+    {"klumdray_tunnelling_confirm_checked",
+     confirm_of,
+     confirm_checked,
+     2,
+     {CHANNELS(1), {"octets", sizeof ACK, ACK, sizeof ACK, 0, 0}}},
 };
 
 /* Puts a slice down, and says where the next may begin. */
@@ -1124,6 +1747,21 @@ int main(void)
     traces_with_tables();
     refused_sites();
     reasons();
+    requests_read();
+    information_read();
+    readers_refuse();
+    requests_written();
+    acknowledgements_written();
+    requests_received();
+    counters_go_round();
+    fresh_channels();
+    closed_channels();
+    refused_requests();
+    refused_acknowledgements();
+    statuses();
+    lengths_of_tables();
+    rooms_of_receivers();
+    requests_sent();
     wide_numbers_of_writers();
     wide_sides();
     wide_numbers_of_queries();
