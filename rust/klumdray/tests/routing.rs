@@ -1,12 +1,14 @@
 //! The comparison for routing: the proved library and the bindings over it beside the reference.
 
+#[path = "support/datagrams.rs"]
+mod datagrams;
 #[path = "support/messages.rs"]
 mod messages;
 mod support;
 #[path = "support/wrong_messages.rs"]
 mod wrong_messages;
 
-use inputs::frames::mend_total;
+use datagrams::around;
 use inputs::{seed, Generator};
 use messages::{
     all_shapes, assert_agrees, heads, likely_message, message, some_code, some_shapes, KINDS,
@@ -20,40 +22,10 @@ const BINDINGS: Implementation = messages::bindings::<ROUTING>();
 
 const INDICATION: u8 = 0x29;
 
-/// A header with the right total length, or with what two octets keep of it, before a message.
-fn datagram(message: &[u8]) -> Vec<u8> {
-    let mut octets = vec![0x06, 0x10, 0x05, 0x30, 0, 0];
-    octets.extend(message);
-    mend_total(&mut octets);
-    octets
-}
+const HEADER: [u8; ROUTING] = [0x06, 0x10, 0x05, 0x30, 0, 0];
 
-/// The datagram, each octet damaged, each cut and 1 to 3 octets more, both with the total length
-/// as it was and mended.
-fn around(
-    comparison: &mut Comparison,
-    generator: &mut Generator,
-    valid: &[u8],
-) -> Result<(), String> {
-    comparison.read(valid)?;
-    let mut octets = valid.to_vec();
-    for place in 0..valid.len() {
-        comparison.read(&valid[..place])?;
-        let mut cut = valid[..place].to_vec();
-        mend_total(&mut cut);
-        comparison.read(&cut)?;
-        octets[place] ^= generator.damage();
-        comparison.read(&octets)?;
-        octets[place] = valid[place];
-    }
-    for _ in 0..3 {
-        octets.push(generator.octet());
-        comparison.read(&octets)?;
-        let mut longer = octets.clone();
-        mend_total(&mut longer);
-        comparison.read(&longer)?;
-    }
-    Ok(())
+fn datagram(message: &[u8]) -> Vec<u8> {
+    datagrams::datagram(&HEADER, message)
 }
 
 /// Octets of one length: by chance; by chance behind a nearly right header; a likely message
@@ -78,16 +50,7 @@ fn likely_datagram(generator: &mut Generator, length: usize) -> Vec<u8> {
     octets
 }
 
-/// Around the most that two octets of total length can say.
-fn large(comparison: &mut Comparison) -> Result<(), String> {
-    let indication = [INDICATION, 0, 0xbc, 0xe0, 0, 0, 0x12, 0x34, 0x00, 0x00];
-    for length in [65_535, 65_536, 65_536 + 6, 65_536 + 16, 131_072 + 16] {
-        let mut message = vec![0; length - ROUTING];
-        message[..indication.len()].copy_from_slice(&indication);
-        comparison.read(&datagram(&message))?;
-    }
-    Ok(())
-}
+const SHORTEST: [u8; 10] = [INDICATION, 0, 0xbc, 0xe0, 0, 0, 0x12, 0x34, 0x00, 0x00];
 
 fn compare(
     proved: Implementation,
@@ -97,7 +60,7 @@ fn compare(
     let mut comparison = Comparison::new(proved, reference);
     let generator = &mut Generator::new(seed);
     comparison.writes(generator, &KINDS, messages::size::<ROUTING>)?;
-    large(&mut comparison)?;
+    datagrams::large(&mut comparison, &HEADER, &SHORTEST)?;
     for (index, shape) in some_shapes(generator).into_iter().enumerate() {
         let valid = datagram(&message(generator, INDICATION, shape));
         around(&mut comparison, generator, &valid)?;

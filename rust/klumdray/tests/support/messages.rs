@@ -1,4 +1,5 @@
-//! cEMI messages for the comparisons, alone (HEADER 0) or behind a KNXnet/IP header (HEADER 6).
+//! cEMI messages for the comparisons, alone (HEADER 0), behind a KNXnet/IP header (HEADER 6) or
+//! behind that and a channel's octets (HEADER 10).
 
 use crate::support::{packed_size, Answer, Comparison, Implementation, Kind, Request};
 use inputs::{seed, Generator};
@@ -6,6 +7,8 @@ use std::ops::RangeInclusive;
 
 /// Octets of a KNXnet/IP header.
 pub const ROUTING: usize = 6;
+/// Octets of what a tunnelling request begins with.
+pub const TUNNELLING: usize = 10;
 
 const CODES: [u8; 3] = [0x11, 0x2e, 0x29];
 
@@ -53,9 +56,15 @@ pub const fn bindings<const HEADER: usize>() -> Implementation {
     }
 }
 
+/// Channel and counter of an accepted request are octets of the datagram and no part of the answer.
+fn reference_request(octets: &[u8]) -> Result<reference::cemi::Frame<'_>, u8> {
+    reference::tunnelling::read_request(octets).map(|request| request.frame)
+}
+
 pub fn reference_read<const HEADER: usize>(octets: &[u8]) -> Answer<'_> {
     let read = match HEADER {
         ROUTING => reference::routing::read,
+        TUNNELLING => reference_request,
         _ => reference::cemi::read,
     };
     let frame = match read(octets) {
@@ -83,18 +92,27 @@ pub fn reference_write<const HEADER: usize>(
     payload: &[u8],
     room: &mut [u8],
 ) -> u64 {
-    let write = match HEADER {
-        ROUTING => reference::routing::write,
-        _ => reference::cemi::write,
-    };
-    let (code, error_mark) = (request.code, request.error_mark);
-    packed_size(write(code, error_mark, &request.given(), payload, room))
+    let (code, error_mark, given) = (request.code, request.error_mark, request.given());
+    let [channel, counter] = on_channel(request);
+    packed_size(match HEADER {
+        ROUTING => reference::routing::write(code, error_mark, &given, payload, room),
+        TUNNELLING => reference::tunnelling::write_request(
+            channel, counter, code, error_mark, &given, payload, room,
+        ),
+        _ => reference::cemi::write(code, error_mark, &given, payload, room),
+    })
+}
+
+/// The channel and counter that a request is written with: any two octets.
+fn on_channel(request: &Request) -> [u8; 2] {
+    request.source.to_le_bytes()
 }
 
 /// The parts where include/klumdray.h says that they are.
 fn library_read<const HEADER: usize>(octets: &[u8]) -> Answer<'_> {
     let packed = match HEADER {
         ROUTING => klumdray::raw::routing_read(octets),
+        TUNNELLING => klumdray::raw::tunnelling_request_read(octets),
         _ => klumdray::raw::cemi_read(octets),
     };
     if packed as u8 != 0 {
@@ -113,17 +131,29 @@ fn library_read<const HEADER: usize>(octets: &[u8]) -> Answer<'_> {
 }
 
 fn library_write<const HEADER: usize>(request: &Request, payload: &[u8], room: &mut [u8]) -> u64 {
-    let write = match HEADER {
-        ROUTING => klumdray::raw::routing_write,
-        _ => klumdray::raw::cemi_write,
-    };
+    use klumdray::raw;
     let (code, error_mark) = (request.code.into(), request.error_mark.into());
-    write(code, error_mark, &request.numbers(), payload, room)
+    let [channel, counter] = on_channel(request).map(u32::from);
+    let numbers = request.numbers();
+    match HEADER {
+        ROUTING => raw::routing_write(code, error_mark, &numbers, payload, room),
+        TUNNELLING => raw::tunnelling_request_write(
+            channel, counter, code, error_mark, &numbers, payload, room,
+        ),
+        _ => raw::cemi_write(code, error_mark, &numbers, payload, room),
+    }
+}
+
+fn bindings_request(octets: &[u8]) -> Result<klumdray::cemi::Frame<'_>, klumdray::Refusal> {
+    let request = klumdray::tunnelling::read_request(octets)?;
+    assert_eq!([request.channel, request.counter], octets[7..9]);
+    Ok(request.frame)
 }
 
 fn bindings_read<const HEADER: usize>(octets: &[u8]) -> Answer<'_> {
     let read = match HEADER {
         ROUTING => klumdray::routing::read,
+        TUNNELLING => bindings_request,
         _ => klumdray::cemi::read,
     };
     let frame = match read(octets) {
@@ -148,11 +178,23 @@ fn bindings_write<const HEADER: usize>(request: &Request, payload: &[u8], room: 
     let code = [Code::Request, Code::Confirmation, Code::Indication]
         .into_iter()
         .find(|code| code.octet() == request.code);
+    let [channel, counter] = on_channel(request);
     let written = match (code, request.meaning(), request.error_mark) {
         (Some(Code::Indication), Some(meaning), 0) if HEADER == ROUTING => {
             klumdray::routing::write(&meaning, payload, room)
         }
-        (Some(code), Some(meaning), mark @ 0..=1) if HEADER != ROUTING => {
+        (Some(code), Some(meaning), mark @ 0..=1) if HEADER == TUNNELLING => {
+            klumdray::tunnelling::write_request(
+                channel,
+                counter,
+                code,
+                mark == 1,
+                &meaning,
+                payload,
+                room,
+            )
+        }
+        (Some(code), Some(meaning), mark @ 0..=1) if HEADER == 0 => {
             klumdray::cemi::write(code, mark == 1, &meaning, payload, room)
         }
         _ => return library_write::<HEADER>(request, payload, room),
