@@ -3,8 +3,8 @@
 use klumdray::raw::Numbers;
 use reference::Given;
 
-/// The largest thing written is a routing datagram with LG 254.
-pub const LARGEST: usize = 270;
+/// The largest thing written is a tunnelling request with LG 254.
+pub const LARGEST: usize = 274;
 
 pub fn given(extended: u8) -> Given {
     Given {

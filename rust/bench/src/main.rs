@@ -7,6 +7,7 @@ mod measure;
 mod routing;
 mod tp1;
 mod tracer;
+mod tunnelling;
 
 fn main() {
     if !measure::is_told() {
@@ -17,6 +18,7 @@ fn main() {
     routing::rows();
     coupler::rows();
     tracer::rows();
+    tunnelling::rows();
 }
 
 fn print_introduction() {
@@ -35,7 +37,10 @@ fn print_introduction() {
     println!(
         "filter table; its size is the frame's on TP1. Trace and why are of a site with all 255"
     );
-    println!("couplers and 32 filter tables; the reference floods it from line to line.");
+    println!(
+        "couplers and 32 filter tables; the reference floods it from line to line. Receive, send"
+    );
+    println!("and confirm are calls of tunnelling on a table of four open channels.");
     if klumdray::LINKED == "emulated" {
         println!("NOT A MEASUREMENT: the library's code is for x86-64 and runs emulated here.");
     } else if cfg!(not(target_arch = "x86_64")) {
