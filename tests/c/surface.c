@@ -947,12 +947,15 @@ static int is_acknowledged(const struct tunnel *t, const struct datagram *d)
            untouched(t->room + KLUMDRAY_ACK_SIZE, sizeof t->room - KLUMDRAY_ACK_SIZE);
 }
 
+/* Octet 9 is neither read nor copied as the status. */
 static int is_received(uint32_t channel)
 {
     struct tunnel t = tunnel(), before = t;
     uint8_t expected = klumdray_channel_receive(t.channels, channel);
     struct datagram d = request((uint8_t)channel, expected);
-    uint64_t answer = receive(&t, d.octets, sizeof REQUEST);
+    uint64_t answer;
+    d.octets[9] = 0x29;
+    answer = receive(&t, d.octets, sizeof REQUEST);
     return answer == klumdray_tunnelling_request_read(d.octets, sizeof REQUEST) &&
            klumdray_number(answer) == 0 && klumdray_delivered(answer) == 1 &&
            is_raised(&t, before, 3 * (channel - 1) + 1) && is_acknowledged(&t, &d) &&
