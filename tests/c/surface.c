@@ -1228,6 +1228,25 @@ static void requests_sent(void)
     check("sending leaves the table", memcmp(&t, &before, sizeof t) == 0);
 }
 
+static void tunnelling(void)
+{
+    requests_read();
+    information_read();
+    readers_refuse();
+    requests_written();
+    acknowledgements_written();
+    requests_received();
+    counters_go_round();
+    fresh_channels();
+    closed_channels();
+    refused_requests();
+    refused_acknowledgements();
+    statuses();
+    lengths_of_tables();
+    rooms_of_receivers();
+    requests_sent();
+}
+
 /* A number in its range; one of 16 bits has no wider one below 65,536. */
 struct number {
     const char *name;
@@ -1750,21 +1769,7 @@ int main(void)
     traces_with_tables();
     refused_sites();
     reasons();
-    requests_read();
-    information_read();
-    readers_refuse();
-    requests_written();
-    acknowledgements_written();
-    requests_received();
-    counters_go_round();
-    fresh_channels();
-    closed_channels();
-    refused_requests();
-    refused_acknowledgements();
-    statuses();
-    lengths_of_tables();
-    rooms_of_receivers();
-    requests_sent();
+    tunnelling();
     wide_numbers_of_writers();
     wide_sides();
     wide_numbers_of_queries();
