@@ -193,9 +193,10 @@
  *   bits 16 to 23  counter
  *   bits 24 to 31  status
  *
- * A receive's answer is a reader's. With number 0 the acknowledgement is the first 10 octets of the
- * room, and those behind it stay as they were; the message code is not 0 exactly if the request is
- * delivered, and with 0 there, where it is acknowledged again, every bit is 0.
+ * A receive's answer has the bits of a reader's. With number 0 the acknowledgement is the first 10
+ * octets of the room, and those behind it stay as they were. If the request is delivered, the answer
+ * is that of klumdray_tunnelling_request_read, whose message code is not 0; if it is acknowledged
+ * again, every bit is 0. With a refusal every bit above 7 is 0.
  *
  * A confirm's answer is one number of 32 bits. With a refusal every bit above 7 is 0.
  *
