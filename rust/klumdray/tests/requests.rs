@@ -52,22 +52,18 @@ fn likely_request(generator: &mut Generator, length: usize) -> Vec<u8> {
 const HEAD: [u8; TUNNELLING] = [0x06, 0x10, 0x04, 0x20, 0, 0, 0x04, 0x01, 0x00, 0x00];
 const SHORTEST: [u8; 10] = [0x11, 0, 0xbc, 0xe0, 0, 0, 0x12, 0x34, 0x00, 0x00];
 
-fn compare(
-    proved: Implementation,
-    reference: Implementation,
-    seed: u64,
-) -> Result<Comparison, String> {
-    let mut comparison = Comparison::new(proved, reference);
-    let generator = &mut Generator::new(seed);
-    comparison.writes(generator, &KINDS, messages::size::<TUNNELLING>)?;
-    datagrams::large(&mut comparison, &HEAD, &SHORTEST)?;
+fn reads(comparison: &mut Comparison, generator: &mut Generator) -> Result<(), String> {
+    for length in (0..=530).flat_map(|length| [length; 200]) {
+        comparison.read(&likely_request(generator, length))?;
+    }
+    datagrams::large(comparison, &HEAD, &SHORTEST)?;
     for (index, shape) in some_shapes(generator).into_iter().enumerate() {
         let code = some_code(generator);
         let message = message(generator, code, shape);
         let valid = request(generator, &message);
-        around(&mut comparison, generator, &valid)?;
+        around(comparison, generator, &valid)?;
         if index % 19 == 0 {
-            heads::<TUNNELLING>(&mut comparison, generator, &valid)?;
+            heads::<TUNNELLING>(comparison, generator, &valid)?;
         }
     }
     for shape in all_shapes() {
@@ -75,9 +71,22 @@ fn compare(
         let message = message(generator, code, shape);
         comparison.read(&request(generator, &message))?;
     }
-    for length in (0..=530).flat_map(|length| [length; 800]) {
-        comparison.read(&likely_request(generator, length))?;
-    }
+    Ok(())
+}
+
+fn writes(comparison: &mut Comparison, generator: &mut Generator) -> Result<(), String> {
+    comparison.writes(generator, &KINDS, messages::size::<TUNNELLING>)
+}
+
+fn compare(
+    proved: Implementation,
+    reference: Implementation,
+    seed: u64,
+) -> Result<Comparison, String> {
+    let mut comparison = Comparison::new(proved, reference);
+    let generator = &mut Generator::new(seed);
+    reads(&mut comparison, generator)?;
+    writes(&mut comparison, generator)?;
     Ok(comparison)
 }
 
@@ -202,11 +211,15 @@ mod wrong {
         ("counter for channel", writes_counter_for_channel),
     ];
 
-    fn assert_noticed(name: &str, reference: Implementation) {
-        let Err(difference) = compare(LIBRARY, reference, seed()) else {
-            panic!("not noticed: {name}");
-        };
-        println!("{name}: {difference:.160}");
+    /// One of the two parts of the comparison.
+    type Part = fn(&mut Comparison, &mut Generator) -> Result<(), String>;
+
+    fn assert_noticed(name: &str, reference: Implementation, part: Part) {
+        let comparison = &mut Comparison::new(LIBRARY, reference);
+        match part(comparison, &mut Generator::new(seed())) {
+            Ok(()) => panic!("not noticed: {name}"),
+            Err(difference) => println!("{name}: {difference:.160}"),
+        }
     }
 
     #[test]
@@ -215,7 +228,7 @@ mod wrong {
             .into_iter()
             .chain(READERS)
         {
-            assert_noticed(name, Implementation { read, ..REFERENCE });
+            assert_noticed(name, Implementation { read, ..REFERENCE }, reads);
         }
     }
 
@@ -225,7 +238,7 @@ mod wrong {
             .into_iter()
             .chain(WRITERS)
         {
-            assert_noticed(name, Implementation { write, ..REFERENCE });
+            assert_noticed(name, Implementation { write, ..REFERENCE }, writes);
         }
     }
 }
