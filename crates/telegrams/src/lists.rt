@@ -36,3 +36,10 @@ pub(crate) fn front(octets: &[u8], size: usize) -> &[u8] {
         octets
     }
 }
+
+pub(crate) fn behind_first(octets: &[u8]) -> &[u8] {
+    if octets.len() < 1 {
+        return octets;
+    }
+    &octets[1..]
+}

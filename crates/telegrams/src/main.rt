@@ -1,11 +1,13 @@
 // Runs the sources' examples and writes what each gives, as tests/telegrams/README.md says.
 //
 // It reads a list of rows (tools/make-telegrams makes it). A row is a list again: the name, the
-// format's letter, and the octets; for a step the setting, the groups, and each frame received.
+// format's letter, and the octets; for a step the setting, the groups, and each frame received; for
+// a tunnel the open channels, and each call: its letter, and behind it what the call is given.
 mod lists;
 mod reads;
 mod steps;
 mod text;
+mod tunnels;
 
 fn run_row(row: &[u8]) {
     io::write_all(1, lists::first(row));
@@ -18,7 +20,10 @@ fn run_row(row: &[u8]) {
         b't' => reads::run_tp1(given),
         b'c' => reads::run_cemi(given),
         b'r' => reads::run_routing(given),
+        b'q' => reads::run_request(given),
+        b'a' => reads::run_acknowledgement(given),
         b's' => steps::run_steps(given, lists::rest(from_octets)),
+        b'u' => tunnels::run_tunnel(given, lists::rest(from_octets)),
         _ => {}
     }
     io::write_all(1, b"\n");

@@ -1,9 +1,11 @@
-// The three readers, each with the payload that it hands out.
+// The readers, each with the payload that it hands out.
 use crate::text;
 use cemi::CemiAnswer;
 use cemi::Codes;
 use cemi::Message;
 use tp1::Tp1Answer;
+use tunnelling::AcknowledgementAnswer;
+use tunnelling::RequestAnswer;
 
 pub(crate) fn run_tp1(given: &[u8]) {
     let answer = tp1::read(given);
@@ -13,7 +15,7 @@ pub(crate) fn run_tp1(given: &[u8]) {
     }
 }
 
-fn put_message(message: Message, payload: &[u8]) {
+pub(crate) fn put_message(message: Message, payload: &[u8]) {
     let code = message.code;
     match code {
         0x11 => {
@@ -49,4 +51,42 @@ pub(crate) fn run_cemi(given: &[u8]) {
 pub(crate) fn run_routing(given: &[u8]) {
     let answer = routing::read(given);
     put_answer(answer, routing::payload(answer, given));
+}
+
+// The payload of a message that was read from these octets.
+pub(crate) fn payload_of(message: Message, octets: &[u8]) -> &[u8] {
+    cemi::payload(CemiAnswer::Frame(message), octets)
+}
+
+fn put_head(channel: u8, counter: u8) {
+    text::put_number(b"channel ", channel);
+    text::put_number(b" counter ", counter);
+}
+
+pub(crate) fn run_request(given: &[u8]) {
+    let answer = tunnelling::read_request(given);
+    match answer {
+        RequestAnswer::Frame(request) => {
+            put_head(request.channel, request.counter);
+            io::write_all(1, b" ");
+            let message = request.message;
+            put_message(
+                message,
+                payload_of(message, tunnelling::message(answer, given)),
+            );
+        }
+        RequestAnswer::Refused(refusal) => text::put_refused(refusal.number()),
+    }
+}
+
+pub(crate) fn run_acknowledgement(given: &[u8]) {
+    let answer = tunnelling::read_acknowledgement(given);
+    match answer {
+        AcknowledgementAnswer::Frame(acknowledgement) => {
+            put_head(acknowledgement.channel, acknowledgement.counter);
+            io::write_all(1, b" status");
+            text::put_octets(&[acknowledgement.status]);
+        }
+        AcknowledgementAnswer::Refused(refusal) => text::put_refused(refusal.number()),
+    }
 }
