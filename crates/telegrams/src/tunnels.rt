@@ -101,14 +101,18 @@ fn open_channels(numbers: &[u8]) -> Table {
     table
 }
 
-// The calls, separated as in the row.
+// What stands between two calls, as in the row.
+fn put_separator(at: usize) {
+    if 0 < at {
+        io::write_all(1, b" > ");
+    }
+}
+
 pub(crate) fn run_tunnel(numbers: &[u8], calls: &[u8]) {
     let mut table = open_channels(numbers);
     let mut at = 0;
     while at < calls.len() {
-        if 0 < at {
-            io::write_all(1, b" > ");
-        }
+        put_separator(at);
         let left = &calls[at..];
         table = run_call(table, lists::first(left));
         at += lists::end(left);
