@@ -1,16 +1,20 @@
 //! The sources' examples in tests/telegrams: what the reference and the bindings say of each row,
-//! beside what the row says that document 01 does.
+//! beside what the row says that documents 01 and 02 do.
 
 #[path = "support/rows.rs"]
 mod rows;
 
 use klumdray::coupler::{Medium, Memory, Settings, Side};
 use klumdray::{Meaning, Refusal};
-use rows::{spaced, Question, Row, Setting, SOURCES};
+use rows::{spaced, Call, Question, Row, Setting, SOURCES};
 use std::collections::BTreeSet;
 
 /// The lent room of a step.
 const ROOM: usize = 272;
+
+/// The room of an acknowledgement, and of the longest request that is sent.
+const ACKNOWLEDGEMENT_ROOM: usize = 10;
+const REQUEST_ROOM: usize = 19 + 255;
 
 type Answer = fn(&Question) -> String;
 
@@ -48,11 +52,47 @@ fn stepped(number: u8, acknowledgement: Option<u8>, own: bool, forwarded: &[u8])
     format!("{refused}{acknowledgement} {own} sends {forwarded}")
 }
 
+fn requested(channel: u8, counter: u8, message: &str) -> String {
+    format!("channel {channel} counter {counter} {message}")
+}
+
+fn acknowledged(channel: u8, counter: u8, status: u8) -> String {
+    format!("channel {channel} counter {counter} status {status:02X}")
+}
+
+/// A request received, with its message if that is delivered.
+fn received(message: Option<String>, acknowledgement: &[u8]) -> String {
+    let what = match message {
+        Some(message) => format!("delivered {message}"),
+        None => "again".to_string(),
+    };
+    format!("{what} sends {}", spaced(acknowledgement))
+}
+
+fn confirmed(raised: bool) -> String {
+    let word = if raised { "raised" } else { "kept" };
+    word.to_string()
+}
+
+fn refused(number: u8) -> String {
+    format!("refused {number}")
+}
+
+/// What comes of each call, one after the other.
+fn each(calls: &[Call], mut answer: impl FnMut(&Call) -> Result<String, u8>) -> String {
+    let texts: Vec<String> = calls
+        .iter()
+        .map(|call| answer(call).unwrap_or_else(refused))
+        .collect();
+    texts.join(" > ")
+}
+
 mod by_reference {
     use super::*;
     use reference::cemi::Code;
     use reference::coupler::{self, Acknowledgement, Coupler};
-    use reference::{cemi, routing, tp1, Format};
+    use reference::tunnelling::{self, Table};
+    use reference::{cemi, routing, tp1, Format, Given};
 
     fn meaning(meaning: &reference::Meaning) -> Meaning {
         Meaning {
@@ -93,6 +133,50 @@ mod by_reference {
         stepped(outcome.number, acknowledgement, outcome.own, forwarded)
     }
 
+    fn code(code: Code) -> u8 {
+        match code {
+            Code::Request => 0x11,
+            Code::Confirmation => 0x2e,
+            Code::Indication => 0x29,
+        }
+    }
+
+    fn send(table: &Table, channel: u8, octets: &[u8]) -> Result<String, u8> {
+        let frame = cemi::read(octets)?;
+        let meaning = frame.meaning;
+        let given = Given {
+            extended: u8::from(meaning.format == Format::Extended),
+            first_sending: u8::from(meaning.first_sending),
+            priority: meaning.priority,
+            source: meaning.source,
+            group: u8::from(meaning.group),
+            destination: meaning.destination,
+            count: meaning.count,
+        };
+        let mark = u8::from(frame.error_mark);
+        let mut room = [0; REQUEST_ROOM];
+        let code = code(frame.code);
+        let size = table.send(channel, code, mark, &given, frame.payload, &mut room)?;
+        Ok(format!("sends {}", spaced(&room[..size])))
+    }
+
+    fn called(table: &mut Table, call: &Call) -> Result<String, u8> {
+        match call {
+            Call::Receive(octets) => {
+                let mut room = [0; ACKNOWLEDGEMENT_ROOM];
+                let delivered = table.receive(octets, &mut room)?;
+                Ok(received(delivered.map(message), &room))
+            }
+            Call::Send(channel, octets) => send(table, *channel, octets),
+            Call::Confirm(octets) => table.confirm(octets).map(confirmed),
+        }
+    }
+
+    pub fn tunnel(open: &[u8], calls: &[Call]) -> String {
+        let mut table = Table::with_open(open);
+        each(calls, |call| called(&mut table, call))
+    }
+
     pub fn answer(question: &Question) -> String {
         let answer = match question {
             Question::Tp1(octets) => {
@@ -100,9 +184,14 @@ mod by_reference {
             }
             Question::Cemi(octets) => cemi::read(octets).map(message),
             Question::Routing(octets) => routing::read(octets).map(message),
+            Question::Request(octets) => tunnelling::read_request(octets)
+                .map(|request| requested(request.channel, request.counter, &message(request.frame))),
+            Question::Acknowledgement(octets) => tunnelling::read_acknowledgement(octets)
+                .map(|answer| acknowledged(answer.channel, answer.counter, answer.status)),
             Question::Step(setting, frames) => Ok(step(setting, frames)),
+            Question::Tunnel(open, calls) => Ok(tunnel(open, calls)),
         };
-        answer.unwrap_or_else(|number| format!("refused {number}"))
+        answer.unwrap_or_else(refused)
     }
 }
 
@@ -110,6 +199,7 @@ mod by_bindings {
     use super::*;
     use klumdray::cemi::Code;
     use klumdray::coupler::Acknowledgement;
+    use klumdray::tunnelling::{self, Channels};
     use klumdray::{cemi, coupler, routing, tp1};
 
     fn message(frame: cemi::Frame<'_>) -> String {
@@ -140,6 +230,41 @@ mod by_bindings {
         stepped(number, acknowledgement, outcome.own, outcome.forwarded)
     }
 
+    fn send(channels: &Channels, channel: u8, octets: &[u8]) -> Result<String, Refusal> {
+        let frame = cemi::read(octets)?;
+        let mut room = [0; REQUEST_ROOM];
+        let size = channels.send(
+            channel,
+            frame.code,
+            frame.error_mark,
+            &frame.meaning,
+            frame.payload(),
+            &mut room,
+        )?;
+        Ok(format!("sends {}", spaced(&room[..size])))
+    }
+
+    fn called(channels: &mut Channels, call: &Call) -> Result<String, Refusal> {
+        match call {
+            Call::Receive(octets) => {
+                let mut room = [0; ACKNOWLEDGEMENT_ROOM];
+                let taken = channels.receive(octets, &mut room)?;
+                let delivered = taken.delivered.map(|request| message(request.frame));
+                Ok(received(delivered, taken.acknowledgement))
+            }
+            Call::Send(channel, octets) => send(channels, *channel, octets),
+            Call::Confirm(octets) => channels.confirm(octets).map(confirmed),
+        }
+    }
+
+    fn tunnel(open: &[u8], calls: &[Call]) -> String {
+        let mut channels = Channels::closed();
+        for number in open {
+            assert!(channels.open(*number), "no channel {number}");
+        }
+        each(calls, |call| called(&mut channels, call).map_err(Refusal::number))
+    }
+
     pub fn answer(question: &Question) -> String {
         let answer = match question {
             Question::Tp1(octets) => {
@@ -147,9 +272,14 @@ mod by_bindings {
             }
             Question::Cemi(octets) => cemi::read(octets).map(message),
             Question::Routing(octets) => routing::read(octets).map(message),
+            Question::Request(octets) => tunnelling::read_request(octets)
+                .map(|request| requested(request.channel, request.counter, &message(request.frame))),
+            Question::Acknowledgement(octets) => tunnelling::read_acknowledgement(octets)
+                .map(|answer| acknowledged(answer.channel, answer.counter, answer.status)),
             Question::Step(setting, frames) => Ok(step(setting, frames)),
+            Question::Tunnel(open, calls) => Ok(tunnel(open, calls)),
         };
-        answer.unwrap_or_else(|refusal: Refusal| format!("refused {}", refusal.number()))
+        answer.unwrap_or_else(|refusal: Refusal| refused(refusal.number()))
     }
 }
 
@@ -197,12 +327,15 @@ fn numbers(source: &str) -> String {
         _ => refused.join(", "),
     };
     format!(
-        "| {source} | {} | {} | {} | {} | {} | {} | {refused} | {} | {} |",
+        "| {source} | {} | {} | {} | {} | {} | {} | {} | {} | {} | {refused} | {} | {} |",
         rows.len(),
         count(&|row| matches!(row.question, Question::Tp1(_))),
         count(&|row| matches!(row.question, Question::Cemi(_))),
         count(&|row| matches!(row.question, Question::Routing(_))),
+        count(&|row| matches!(row.question, Question::Request(_))),
+        count(&|row| matches!(row.question, Question::Acknowledgement(_))),
         count(&|row| matches!(row.question, Question::Step(..))),
+        count(&|row| matches!(row.question, Question::Tunnel(..))),
         count(&|row| row.number() == 0),
         count(&Row::is_misprint),
         count(&Row::is_other_format),
@@ -219,13 +352,13 @@ fn document_has_the_numbers() {
     }
 }
 
-/// A refusal is never unexplained: document 01's layouts are broken by misprints, by other
-/// formats, and by messages that a source cuts on purpose.
+/// A refusal is never unexplained: the layouts are broken by misprints, by other formats, and by
+/// messages that a source cuts on purpose; a counter is wrong on purpose.
 #[test]
 fn refused_rows_say_why() {
     for row in all_rows().filter(|row| row.number() != 0) {
         let cut = row.remark.starts_with("the first USB report alone");
-        let why = row.is_misprint() || row.is_other_format() || cut;
+        let why = row.is_misprint() || row.is_other_format() || row.is_on_purpose() || cut;
         assert!(why, "{}: {}", row.name, row.remark);
     }
 }
@@ -233,11 +366,13 @@ fn refused_rows_say_why() {
 /// The idle programs that document 01 names, as far as they answer rows.
 mod idle {
     use super::*;
+    use std::slice;
 
     fn refuses_all(question: &Question) -> String {
         match question {
             Question::Step(..) => stepped(1, None, false, &[]),
-            _ => "refused 1".to_string(),
+            Question::Tunnel(_, calls) => each(calls, |_| Err(1)),
+            _ => refused(1),
         }
     }
 
@@ -253,7 +388,7 @@ mod idle {
             count: 3,
         };
         match question {
-            Question::Step(..) => by_reference::answer(question),
+            Question::Step(..) | Question::Tunnel(..) => by_reference::answer(question),
             _ => words(&meaning, &p1),
         }
     }
@@ -276,11 +411,23 @@ mod idle {
         forwards(question, spaced)
     }
 
-    const PROGRAMS: [(&str, Answer); 4] = [
+    /// Every call meets a fresh table.
+    fn raises_nothing(question: &Question) -> String {
+        match question {
+            Question::Tunnel(open, calls) => {
+                let alone = |call| by_reference::tunnel(open, slice::from_ref(call));
+                calls.iter().map(alone).collect::<Vec<_>>().join(" > ")
+            }
+            _ => by_reference::answer(question),
+        }
+    }
+
+    const PROGRAMS: [(&str, Answer); 5] = [
         ("refuses all", refuses_all),
         ("one fixed frame", one_fixed_frame),
         ("forwards nothing", forwards_nothing),
         ("copies octets unchanged", copies_octets),
+        ("raises nothing", raises_nothing),
     ];
 
     #[test]

@@ -17,19 +17,31 @@ pub struct Setting {
     pub table: Vec<u8>,
 }
 
+/// A call on a table of channels.
+pub enum Call {
+    Receive(Vec<u8>),
+    /// The channel, and the message that is to go out on it.
+    Send(u8, Vec<u8>),
+    Confirm(Vec<u8>),
+}
+
 /// What a row asks.
 pub enum Question {
     Tp1(Vec<u8>),
     Cemi(Vec<u8>),
     Routing(Vec<u8>),
+    Request(Vec<u8>),
+    Acknowledgement(Vec<u8>),
     /// Frames received one after the other; the row says what becomes of the last.
     Step(Setting, Vec<Vec<u8>>),
+    /// The open channels, and calls one after the other; the row says what comes of each.
+    Tunnel(Vec<u8>, Vec<Call>),
 }
 
 pub struct Row {
     pub name: String,
     pub question: Question,
-    /// What document 01 says of it.
+    /// What document 01, or R-1 of document 02, says of it.
     pub text: String,
     pub remark: String,
 }
@@ -43,9 +55,16 @@ impl Row {
         self.remark.starts_with("other format: ")
     }
 
-    /// The number by which it is refused, 0 if it is not. A step's other parts stand behind it.
+    /// The source wants a request refused that breaks no layout.
+    pub fn is_on_purpose(&self) -> bool {
+        self.remark.starts_with("on purpose: ")
+    }
+
+    /// The number by which it is refused, in a tunnel its last call, or 0. A step's other parts
+    /// stand behind it.
     pub fn number(&self) -> usize {
-        let mut words = self.text.split(' ');
+        let last = self.text.rsplit(" > ").next().unwrap_or_default();
+        let mut words = last.split(' ');
         match (words.next(), words.next()) {
             (Some("refused"), Some(number)) => number.parse().expect("a number behind refused"),
             _ => 0,
@@ -76,6 +95,8 @@ fn question(format: &str, octets: &str) -> Question {
         "tp1" => Question::Tp1(pairs(octets)),
         "cemi" => Question::Cemi(pairs(octets)),
         "routing" => Question::Routing(pairs(octets)),
+        "request" => Question::Request(pairs(octets)),
+        "acknowledgement" => Question::Acknowledgement(pairs(octets)),
         "step" => {
             let mut parts = octets.split(" > ").map(pairs);
             let setting = setting(&parts.next().expect("a setting"));
@@ -83,7 +104,25 @@ fn question(format: &str, octets: &str) -> Question {
             assert!(!frames.is_empty(), "no frame: {octets}");
             Question::Step(setting, frames)
         }
+        "tunnel" => {
+            let mut parts = octets.split(" > ");
+            let open = pairs(parts.next().expect("the open channels"));
+            let calls: Vec<Call> = parts.map(call).collect();
+            assert!(!calls.is_empty(), "no call: {octets}");
+            Question::Tunnel(open, calls)
+        }
         _ => panic!("no such format: {format}"),
+    }
+}
+
+fn call(text: &str) -> Call {
+    let (word, octets) = text.split_once(' ').expect("a word and octets");
+    let octets = pairs(octets);
+    match word {
+        "receive" => Call::Receive(octets),
+        "send" => Call::Send(octets[0], octets[1..].to_vec()),
+        "confirm" => Call::Confirm(octets),
+        _ => panic!("no such call: {word}"),
     }
 }
 
