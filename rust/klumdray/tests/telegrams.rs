@@ -184,8 +184,9 @@ mod by_reference {
             }
             Question::Cemi(octets) => cemi::read(octets).map(message),
             Question::Routing(octets) => routing::read(octets).map(message),
-            Question::Request(octets) => tunnelling::read_request(octets)
-                .map(|request| requested(request.channel, request.counter, &message(request.frame))),
+            Question::Request(octets) => tunnelling::read_request(octets).map(|request| {
+                requested(request.channel, request.counter, &message(request.frame))
+            }),
             Question::Acknowledgement(octets) => tunnelling::read_acknowledgement(octets)
                 .map(|answer| acknowledged(answer.channel, answer.counter, answer.status)),
             Question::Step(setting, frames) => Ok(step(setting, frames)),
@@ -262,7 +263,9 @@ mod by_bindings {
         for number in open {
             assert!(channels.open(*number), "no channel {number}");
         }
-        each(calls, |call| called(&mut channels, call).map_err(Refusal::number))
+        each(calls, |call| {
+            called(&mut channels, call).map_err(Refusal::number)
+        })
     }
 
     pub fn answer(question: &Question) -> String {
@@ -272,8 +275,9 @@ mod by_bindings {
             }
             Question::Cemi(octets) => cemi::read(octets).map(message),
             Question::Routing(octets) => routing::read(octets).map(message),
-            Question::Request(octets) => tunnelling::read_request(octets)
-                .map(|request| requested(request.channel, request.counter, &message(request.frame))),
+            Question::Request(octets) => tunnelling::read_request(octets).map(|request| {
+                requested(request.channel, request.counter, &message(request.frame))
+            }),
             Question::Acknowledgement(octets) => tunnelling::read_acknowledgement(octets)
                 .map(|answer| acknowledged(answer.channel, answer.counter, answer.status)),
             Question::Step(setting, frames) => Ok(step(setting, frames)),
