@@ -101,9 +101,12 @@ fn objects(text: &str) -> Vec<Value> {
 const P1: &str = "BC 00 00 12 34 B4 00 80 56 78 9A E5";
 const P2: &str = "BC 00 00 12 34 B4 00 80 56 78 9A E4";
 const P7: &str = "06 10 05 30 00 14 29 00 BC C0 00 00 12 34 04 00 80 56 78 9A";
+/// Document 001, 5.2.2 and 5.2.3.
+const REQUEST: &str = "06 10 04 20 00 18 04 01 00 00 29 00 BC E0 11 FD 12 34 04 00 80 56 78 9A";
+const ACKNOWLEDGEMENT: &str = "06 10 04 21 00 0A 04 01 09 00";
 
-/// What the command writes of document 01's telegrams: words, status, text.
-const GOLDEN: [(&[&str], u8, &str); 9] = [
+/// What the command writes of document 01's telegrams, and of 001's in a tunnel: words, status, text.
+const GOLDEN: [(&[&str], u8, &str); 12] = [
     (
         &[P1],
         0,
@@ -196,10 +199,58 @@ routing datagram, 20 octets
 ",
     ),
     (
+        &[REQUEST],
+        0,
+        "\
+tunnelling request, 24 octets
+  octets        06 10 04 20 00 18 04 01 00 00 29 00 BC E0 11 FD
+                12 34 04 00 80 56 78 9A
+  service       0420h, TUNNELLING_REQUEST
+  total length  24
+  channel       1
+  counter       0
+  message code  29h, L_Data indication
+  error mark    0, read in a confirmation only
+  information   none, a is 0
+  format        standard
+  repeat flag   1, first sending
+  priority      11, low
+  source        1.1.253, 11FDh
+  AT            1, group address
+  destination   2/2/52, 1234h
+  hop count     6
+  LG            4
+  payload       00 80 56 78 9A
+",
+    ),
+    (
+        &[ACKNOWLEDGEMENT],
+        0,
+        "\
+tunnelling acknowledgement, 10 octets
+  octets        06 10 04 21 00 0A 04 01 09 00
+  service       0421h, TUNNELLING_ACK
+  total length  10
+  channel       1
+  counter       9
+  status        00h, no error
+",
+    ),
+    (
+        &["06 10 04 20 00 0B 06 01 00 00 29"],
+        1,
+        "\
+read as tunnelling request, refused 19: connection header's first octet not 04h
+   0  06 10 04 20 00 0B 06 01 00 00 29
+                        ^^
+  octet 6: 06h, expected 04h
+",
+    ),
+    (
         &["CC"],
         1,
         "\
-neither TP1 nor cEMI nor routing
+neither TP1 nor cEMI nor routing nor tunnelling
    0  CC
   read as TP1, refused 2: TP1 control octet of another kind
     octet 0: CCh (11001100, acknowledgement), expected the bits x0x1xx00
@@ -207,6 +258,10 @@ neither TP1 nor cEMI nor routing
     octet 0: CCh, expected 11h, 2Eh or 29h
   read as routing, refused 1: fewer octets than the frame needs
     1 octet, expected at least 16 octets
+  read as tunnelling request, refused 1: fewer octets than the frame needs
+    1 octet, expected at least 20 octets
+  read as tunnelling acknowledgement, refused 1: fewer octets than the frame needs
+    1 octet, expected 10 octets
 ",
     ),
     (
@@ -303,7 +358,7 @@ fn fields_in_words() {
 #[test]
 fn places_in_words() {
     let long = format!("29 00 3C E0 00 00 12 34 40 {}", "AA ".repeat(80));
-    let cases: [(&str, &str); 10] = [
+    let cases: [(&str, &str); 17] = [
         ("BC 00 00 12 34 B4 00", "  7 octets, expected 12 octets"),
         (
             "B0 AF FE 00 00 E1 01 00 FE 00",
@@ -321,7 +376,7 @@ fn places_in_words() {
         ("06 10 05 30 00 07 11", "  octet 6: 11h, expected 29h"),
         (
             "06 10 02 01 00 06",
-            "  octets 2 to 3: 02h 01h, expected 05h 30h",
+            "    octets 2 to 3: 02h 01h, expected 04h 21h",
         ),
         (
             "06 10 05 30 00 07",
@@ -332,10 +387,61 @@ fn places_in_words() {
             "  6 octets, expected at least 16 octets",
         ),
         ("06 10 05", "  3 octets, expected at least 16 octets"),
+        ("06 10 04", "    3 octets, expected 10 octets"),
+        ("06 10 04 20", "  4 octets, expected at least 20 octets"),
+        (
+            "06 10 04 20 00 0B 04 01 00 00 2B",
+            "  octet 10: 2Bh, expected 11h, 2Eh or 29h",
+        ),
+        (
+            "06 10 04 20 00 0C 04 01 00 00 29 FF",
+            "  octet 11: FFh, expected 00h to FEh",
+        ),
+        (
+            "06 10 04 21 00 09 04 01 00",
+            "  9 octets, expected 10 octets",
+        ),
+        (
+            "06 10 04 21 00 0A 05 01 00 00",
+            "  octet 6: 05h, expected 04h",
+        ),
+        (
+            "06 10 04 21 00 0C 04 01 00 00 00 00",
+            "  octets 10 to 11: 2 octets left, expected the end of the frame",
+        ),
     ];
     for (octets, last) in cases {
         let ended = decode(&[octets], b"");
         assert_eq!((ended.status, ended.output.lines().last()), (1, Some(last)));
+    }
+}
+
+/// Which statuses have a name, in words and for scripts.
+#[test]
+fn statuses_of_acknowledgements() {
+    let named = [
+        (0x00, "no error"),
+        (0x21, "connection id"),
+        (0x22, "connection type"),
+        (0x23, "connection option"),
+        (0x24, "no more connections"),
+        (0x25, "no more unique connections"),
+        (0x27, "KNX connection"),
+        (0x29, "tunnelling layer"),
+    ];
+    for status in 0..=255 {
+        let octets = format!("06 10 04 21 00 0A 04 FF 80 {status:02X}");
+        let name = named.iter().find(|(octet, _)| *octet == status);
+        let words = name.map_or(String::new(), |(_, words)| format!(", {words}"));
+        let text = decode(&[&octets], b"").output;
+        let last = text.lines().last().map(String::from);
+        assert_eq!(last, Some(format!("  status        {status:02X}h{words}")));
+        let words = name.map_or("null".into(), |(_, words)| format!("\"{words}\""));
+        let end = format!(
+            r#""channel": 255, "counter": 128, "status": {status}, "status_words": {words}}}"#
+        );
+        let record = decode(&["--json", &octets], b"").output;
+        assert!(record.trim_end().ends_with(&end), "{record}");
     }
 }
 
@@ -379,6 +485,17 @@ read as TP1, refused 1: fewer octets than the frame needs
 
 /// A row of tests/telegrams as an accepted frame of JSON says it.
 fn row_text(object: &Value) -> String {
+    let tunnel = match object.get("channel") {
+        None => String::new(),
+        Some(_) => format!(
+            "channel {} counter {} ",
+            object.number("channel"),
+            object.number("counter")
+        ),
+    };
+    if object.get("status").is_some() {
+        return format!("{tunnel}status {:02X}", object.number("status"));
+    }
     let message = match object.get("message") {
         None => String::new(),
         Some(_) => match (object.text("message"), object.flag("error_mark")) {
@@ -392,7 +509,7 @@ fn row_text(object: &Value) -> String {
     let word = |name, yes, no| if object.flag(name) { yes } else { no };
     let payload = hex::read(object.text("payload")).expect("hex digits");
     format!(
-        "{message}{} {} priority {} source {:04X} {} {:04X} count {} payload {}",
+        "{tunnel}{message}{} {} priority {} source {:04X} {} {:04X} count {} payload {}",
         object.text("format"),
         word("first_sending", "first", "repeated"),
         object.number("priority"),
@@ -402,6 +519,10 @@ fn row_text(object: &Value) -> String {
         object.number("count"),
         spaced(&payload)
     )
+}
+
+fn flag(kind: Kind) -> String {
+    format!("--{}", kind.token().replace('_', "-"))
 }
 
 fn told_text(object: &Value) -> String {
@@ -421,15 +542,15 @@ fn sources_examples() {
             (Kind::Tp1, Question::Tp1(octets)) => Some((row, octets)),
             (Kind::Cemi, Question::Cemi(octets)) => Some((row, octets)),
             (Kind::Routing, Question::Routing(octets)) => Some((row, octets)),
+            (Kind::Request, Question::Request(octets)) => Some((row, octets)),
+            (Kind::Acknowledgement, Question::Acknowledgement(octets)) => Some((row, octets)),
             _ => None,
         });
         let of_kind: Vec<_> = of_kind.collect();
         let lines: Vec<String> = of_kind.iter().map(|(_, octets)| spaced(octets)).collect();
         let input = lines.join("\n");
-        let forced = decode(
-            &["--json", &format!("--{}", kind.token())],
-            input.as_bytes(),
-        );
+        assert!(!of_kind.is_empty(), "{}", kind.name());
+        let forced = decode(&["--json", &flag(kind)], input.as_bytes());
         let alone = decode(&["--json", "-"], input.as_bytes());
         let answers = objects(&forced.output)
             .into_iter()
@@ -451,7 +572,7 @@ fn sources_examples() {
 /// The very lines that scripts read.
 #[test]
 fn golden_objects() {
-    let cases: [(&[&str], &str); 4] = [
+    let cases: [(&[&str], &str); 6] = [
         (
             &["BC 11 01 12 34 E1 00 81 15"],
             r#"{"octets": "bc11011234e1008115", "kind": "tp1", "refusal": 0, "format": "standard", "first_sending": true, "priority": 3, "source": "1.1.1", "source_number": 4353, "group": true, "destination": "2/2/52", "destination_number": 4660, "count": 6, "payload": "0081"}"#,
@@ -466,7 +587,15 @@ fn golden_objects() {
         ),
         (
             &["cc"],
-            r#"{"octets": "cc", "kind": null, "refusal": null, "words": "neither TP1 nor cEMI nor routing", "place": null, "expected": null, "refusals": {"tp1": 2, "cemi": 7, "routing": 1}}"#,
+            r#"{"octets": "cc", "kind": null, "refusal": null, "words": "neither TP1 nor cEMI nor routing nor tunnelling", "place": null, "expected": null, "refusals": {"tp1": 2, "cemi": 7, "routing": 1, "tunnelling_request": 1, "tunnelling_ack": 1}}"#,
+        ),
+        (
+            &[REQUEST],
+            r#"{"octets": "061004200018040100002900bce011fd123404008056789a", "kind": "tunnelling_request", "refusal": 0, "channel": 1, "counter": 0, "format": "standard", "first_sending": true, "priority": 3, "source": "1.1.253", "source_number": 4605, "group": true, "destination": "2/2/52", "destination_number": 4660, "count": 6, "payload": "008056789a", "message": "indication", "error_mark": false, "information": ""}"#,
+        ),
+        (
+            &[ACKNOWLEDGEMENT],
+            r#"{"octets": "06100421000a04010900", "kind": "tunnelling_ack", "refusal": 0, "channel": 1, "counter": 9, "status": 0, "status_words": "no error"}"#,
         ),
     ];
     for (words, line) in cases {
@@ -616,7 +745,7 @@ fn faults() {
         ),
         (
             &["--tp2", "BC"],
-            "--tp2: expected --tp1, --cemi, --routing, --file or --json, found another option",
+            "--tp2: expected --tp1, --cemi, --routing, --tunnelling-request, --tunnelling-ack, --file or --json, found another option",
         ),
         (
             &["--json", "--json"],
@@ -678,6 +807,8 @@ fn help() {
         "--tp1",
         "--cemi",
         "--routing",
+        "--tunnelling-request",
+        "--tunnelling-ack",
         "--file",
         "--json",
         "Exit status",
@@ -690,7 +821,7 @@ fn help() {
 
 /// A text that is sometimes hex, sometimes nearly, and sometimes octets by chance.
 fn some_input(generator: &mut Generator) -> Vec<u8> {
-    let kind = Kind::ALL[generator.below(3)];
+    let kind = Kind::ALL[generator.below(Kind::ALL.len())];
     let mut text = match generator.below(4) {
         0 => {
             let length = generator.below(60);
@@ -713,13 +844,14 @@ fn some_input(generator: &mut Generator) -> Vec<u8> {
 #[test]
 fn any_input_is_answered() {
     let mut generator = Generator::new(seed());
-    let flags = ["--tp1", "--cemi", "--routing"];
+    let flags = Kind::ALL.map(flag);
     let mut statuses = [0; 3];
     for _ in 0..100_000 {
         let input = some_input(&mut generator);
         let json = generator.below(2) == 0;
         let mut words = vec![];
-        words.extend(flags.get(generator.below(6)));
+        let flag = flags.get(generator.below(4 * flags.len()));
+        words.extend(flag.map(String::as_str));
         words.extend(json.then_some("--json"));
         let text = String::from_utf8_lossy(&input).into_owned();
         let ended = match generator.below(3) {

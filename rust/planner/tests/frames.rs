@@ -6,7 +6,7 @@ mod emulated;
 mod frames;
 
 use emulated::number_of_inputs;
-use frames::{broken, mend_total, whole};
+use frames::{broken, head, mend_total, whole};
 use inputs::{seed, Generator};
 use klumdray::Refusal;
 use planner::frame::place::{place, Expected, Place};
@@ -18,13 +18,17 @@ fn number(kind: Kind, octets: &[u8]) -> u8 {
     kind.read(octets).map_or_else(Refusal::number, |_| 0)
 }
 
-/// Which kind the first octet belongs to, by document 01's layouts.
-fn kind_of(first: u8) -> Option<Kind> {
-    match first {
-        0x11 | 0x29 | 0x2e => Some(Kind::Cemi),
-        0x06 => Some(Kind::Routing),
-        control if control & 0b0101_0011 == 0b0001_0000 => Some(Kind::Tp1),
-        _ => None,
+/// Which kinds begin as the octets do, by the layouts of documents 01 and 02.
+fn kinds_of(octets: &[u8]) -> Vec<Kind> {
+    let is_begun = |kind: &Kind| {
+        let header = head(*kind).iter().take(4);
+        octets.iter().zip(header).all(|(octet, own)| octet == own)
+    };
+    match octets {
+        [0x11 | 0x29 | 0x2e, ..] => vec![Kind::Cemi],
+        [0x06, ..] => Kind::ALL[2..].iter().copied().filter(is_begun).collect(),
+        [control, ..] if control & 0b0101_0011 == 0b0001_0000 => vec![Kind::Tp1],
+        _ => vec![],
     }
 }
 
@@ -43,31 +47,38 @@ fn at_most_one_reader_takes_a_first_octet() {
                 .filter(|kind| kind.read(&octets).is_ok())
                 .collect();
             assert!(taken.is_empty() || taken == [kind], "{octets:02X?}");
-            assert!(taken.is_empty() || kind_of(first) == Some(kind));
+            assert!(taken.is_empty() || kinds_of(&octets) == [kind]);
         }
     }
 }
 
+/// The first octet, and in a datagram the header up to its service.
 #[test]
-fn the_first_octet_tells_what_was_meant() {
+fn the_first_octets_tell_what_was_meant() {
     let mut generator = Generator::new(seed());
-    for first in 0..=255 {
+    let mut hold = |begun: &[u8]| {
         for length in 1..=24 {
             let mut octets = generator.octets(length);
-            octets[0] = first;
-            if let (0x06, Some(version)) = (first, octets.get_mut(1)) {
-                *version = 0x10;
+            for (octet, own) in octets.iter_mut().zip(begun) {
+                *octet = *own;
             }
             let told = match tell(&octets, None) {
-                Told::Accepted(frame) => Some(frame.kind),
-                Told::Refused(kind, _) => Some(kind),
+                Told::Accepted(content) => vec![content.kind()],
+                Told::Refused(kind, _) => vec![kind],
                 Told::Untold { likely, .. } => {
-                    assert!(likely.is_empty(), "{octets:02X?}");
-                    None
+                    assert_ne!(likely.len(), 1, "{octets:02X?}");
+                    likely
                 }
             };
-            assert_eq!(told, kind_of(first), "{octets:02X?}");
+            assert_eq!(told, kinds_of(&octets), "{octets:02X?}");
         }
+    };
+    for octet in 0..=255 {
+        hold(&[octet]);
+        hold(&[0x06, octet]);
+        hold(&[0x06, 0x10, octet]);
+        hold(&[0x06, 0x10, 0x04, octet]);
+        hold(&[0x06, 0x10, 0x05, octet]);
     }
 }
 
@@ -87,18 +98,18 @@ fn octets_that_tell_nothing() {
         .iter()
         .map(|(_, refusal)| refusal.number())
         .collect();
-    assert_eq!(numbers, [2, 7, 10]);
+    assert_eq!(numbers, [2, 7, 10, 10, 10]);
 }
 
 #[test]
 fn a_forced_kind_is_its_reader() {
     let mut generator = Generator::new(seed());
     for _ in 0..20_000 {
-        let made = Kind::ALL[generator.below(3)];
+        let made = Kind::ALL[generator.below(Kind::ALL.len())];
         let octets = broken(&mut generator, made);
         for kind in Kind::ALL {
             let expected = match kind.read(&octets) {
-                Ok(frame) => Told::Accepted(frame),
+                Ok(content) => Told::Accepted(content),
                 Err(refusal) => Told::Refused(kind, refusal),
             };
             assert_eq!(tell(&octets, Some(kind)), expected);
@@ -133,15 +144,16 @@ impl Case<'_> {
     }
 }
 
-/// Accepted, or refused for the check octet, which other octets need another of.
-const ENDS_RIGHT: [u8; 2] = [0, 6];
+/// Accepted; or refused for the check octet, which other octets need another of, or for the first
+/// octet behind the header, which is asked when all of an acknowledgement are there.
+const ENDS_RIGHT: [u8; 3] = [0, 6, 19];
 
 /// "1": with the octets that are said to be needed, and no fewer, there are enough.
 fn too_few(case: &Case<'_>, generator: &mut Generator) {
     let there = case.octets.len();
     assert_eq!(case.place.octets, there..there, "{case:?}");
     match case.place.expected {
-        Expected::Size(size) => {
+        Expected::Size(size) if there >= head(case.kind).len() => {
             assert!(there < size, "{case:?}");
             for length in there..size {
                 assert_eq!(case.of_length(generator, length), 1, "{case:?}");
@@ -150,9 +162,10 @@ fn too_few(case: &Case<'_>, generator: &mut Generator) {
                 ENDS_RIGHT.contains(&case.of_length(generator, size)),
                 "{case:?}"
             );
-            assert_eq!(case.of_length(generator, size + 1), 5, "{case:?}");
+            let above = case.of_length(generator, size + 1);
+            assert!([5, 19].contains(&above), "{case:?}");
         }
-        Expected::AtLeast(size) => {
+        Expected::Size(size) | Expected::AtLeast(size) => {
             assert!(there < size, "{case:?}");
             for length in there..size {
                 assert_ne!(case.of_length(generator, length), 0, "{case:?}");
@@ -165,13 +178,15 @@ fn too_few(case: &Case<'_>, generator: &mut Generator) {
 
 /// Continued with a = 0, LG = 0 and, in a datagram, with the header's octets.
 fn least_continued(case: &Case<'_>, size: usize) -> u8 {
-    let mut octets = case.octets.to_vec();
-    if let (Kind::Routing, Some(rest)) = (case.kind, [6, 0x10, 5, 0x30, 0, 0].get(octets.len()..)) {
-        octets.extend(rest);
-        octets.push(0x29);
-    } else if octets.is_empty() {
-        octets.push(if case.kind == Kind::Tp1 { 0xbc } else { 0x29 });
+    let mut least = head(case.kind).to_vec();
+    match case.kind {
+        Kind::Tp1 => least.push(0xbc),
+        Kind::Cemi | Kind::Routing => least.push(0x29),
+        Kind::Request => least.extend([0, 0, 0, 0x29]),
+        Kind::Acknowledgement => {}
     }
+    let mut octets = case.octets.to_vec();
+    octets.extend(least.get(octets.len()..).unwrap_or(&[]));
     octets.resize(size, 0);
     mend_total(case.kind, &mut octets);
     number(case.kind, &octets)
@@ -204,7 +219,7 @@ fn expected_values(expected: &Expected) -> Vec<Vec<u8>> {
         Expected::OneOf(octets) => each(octets.to_vec()),
         Expected::UpTo(greatest) => each((0..=*greatest).collect()),
         Expected::Control => {
-            let control = |octet: &u8| kind_of(*octet) == Some(Kind::Tp1);
+            let control = |octet: &u8| kinds_of(&[*octet]) == [Kind::Tp1];
             each((0..=255).filter(control).collect())
         }
         other => panic!("{other:?} in the place of an octet"),
@@ -264,9 +279,9 @@ fn a_place_is_where_its_refusal_comes_from() {
     println!("KLUMDRAY_SEED={seed:#x}");
     let mut generator = Generator::new(seed);
     let mut seen: BTreeMap<(&str, u8), usize> = BTreeMap::new();
-    let rounds = number_of_inputs(60_000, 6_000);
+    let rounds = number_of_inputs(100_000, 10_000);
     for round in 0..rounds {
-        let kind = Kind::ALL[round % 3];
+        let kind = Kind::ALL[round % Kind::ALL.len()];
         let octets = broken(&mut generator, kind);
         let Err(refusal) = kind.read(&octets) else {
             continue;
@@ -282,24 +297,30 @@ fn a_place_is_where_its_refusal_comes_from() {
     }
     let numbers = |token| {
         let of_kind = seen.iter().filter(move |((kind, _), _)| *kind == token);
-        let often = of_kind.filter(|(_, times)| **times >= rounds / 3_000);
+        let often = of_kind.filter(|(_, times)| **times >= rounds / 5_000);
         often.map(|((_, number), _)| *number).collect::<Vec<u8>>()
     };
     assert_eq!(numbers("tp1"), [1, 2, 3, 4, 5, 6], "{seen:?}");
     assert_eq!(numbers("cemi"), [1, 3, 4, 5, 7, 8, 9], "{seen:?}");
     let routing = [1, 3, 4, 5, 7, 8, 9, 10, 11, 12];
     assert_eq!(numbers("routing"), routing, "{seen:?}");
+    let request = [1, 3, 4, 5, 7, 8, 9, 10, 11, 12, 19];
+    assert_eq!(numbers("tunnelling_request"), request, "{seen:?}");
+    let acknowledgement = [1, 5, 10, 11, 12, 19];
+    assert_eq!(numbers("tunnelling_ack"), acknowledgement, "{seen:?}");
 }
 
 /// A datagram may be longer than any total length says.
 #[test]
 fn a_datagram_that_is_too_long() {
-    let mut octets = vec![0; 65_536];
-    octets[..4].copy_from_slice(&[0x06, 0x10, 0x05, 0x30]);
-    let refusal = Kind::Routing.read(&octets).unwrap_err();
-    assert_eq!(refusal, Refusal::TOTAL_LENGTH);
-    let place = place(Kind::Routing, &octets, refusal).unwrap();
-    assert_eq!((place.octets, place.expected), (4..6, Expected::Shorter));
+    for kind in &Kind::ALL[2..] {
+        let mut octets = head(*kind).to_vec();
+        octets.resize(65_536, 0);
+        let refusal = kind.read(&octets).unwrap_err();
+        assert_eq!(refusal, Refusal::TOTAL_LENGTH);
+        let place = place(*kind, &octets, refusal).unwrap();
+        assert_eq!((place.octets, place.expected), (4..6, Expected::Shorter));
+    }
 }
 
 /// A place is asked for only after a refusal, but any question has an answer.
@@ -319,6 +340,9 @@ fn no_question_is_too_odd() {
         Refusal::SERVICE,
         Refusal::TOTAL_LENGTH,
         Refusal::ROOM,
+        Refusal::FIRST_OCTET,
+        Refusal::CHANNEL,
+        Refusal::COUNTER,
     ];
     let mut generator = Generator::new(seed());
     for round in 0..3_000 {

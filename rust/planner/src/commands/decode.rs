@@ -10,7 +10,8 @@ use std::io::{self, BufRead, BufReader, Read, Write};
 
 /// What `klumdray decode --help` says.
 pub const HELP: &str = "\
-klumdray decode: what a TP1 frame, cEMI message or routing datagram says, or why it is refused
+klumdray decode: what a TP1 frame, a cEMI message, a routing datagram, a tunnelling request or its
+acknowledgement says, or why it is refused
 
   klumdray decode HEX..       octets, two hex digits each; spaces, colons or hyphens may stand
                               between octets, and 0x before them
@@ -18,16 +19,20 @@ klumdray decode: what a TP1 frame, cEMI message or routing datagram says, or why
                               skipped; a name that reads as HEX needs --file
   klumdray decode [-]         the same from standard input
 
-  --tp1, --cemi, --routing    read as this kind; otherwise the three are told apart
+  --tp1, --cemi, --routing, --tunnelling-request, --tunnelling-ack
+                              read as this kind; otherwise the five are told apart
   --file FILE                 read this file, whatever its name
   --json                      one JSON object a line, for scripts
 
-A refused frame is shown with document 01's number and words, the octets that the refusal comes
-from (the first octet is 0) and what was expected there.
+A refused frame is shown with the refusal's number and words, the octets that the refusal comes from
+(the first octet is 0) and what was expected there.
 
 In JSON an accepted frame has refusal 0; a refused one has its number, words, place and expected.
-Where octets may be of none of the three kinds, or of more than one, kind and refusal are null and
+Where octets may be of none of the five kinds, or of more than one, kind and refusal are null and
 refusals has each reader's number. A frame from a file or standard input has its line.
+
+Of a tunnelling datagram channel and counter are told as they stand in it; whether the channel is
+open, and the counter the one awaited, is known to who keeps the channels.
 
 Examples:
   klumdray decode BC 00 00 12 34 B4 00 80 56 78 9A E5
@@ -37,7 +42,7 @@ Exit status: 0 every frame is accepted; 1 a frame is refused; 2 a file, a line o
 be read.
 ";
 
-const KNOWN: [Known; 5] = [
+const KNOWN: [Known; 7] = [
     Known {
         name: "--tp1",
         value: None,
@@ -48,6 +53,14 @@ const KNOWN: [Known; 5] = [
     },
     Known {
         name: "--routing",
+        value: None,
+    },
+    Known {
+        name: "--tunnelling-request",
+        value: None,
+    },
+    Known {
+        name: "--tunnelling-ack",
         value: None,
     },
     Known {
@@ -99,7 +112,7 @@ pub fn run(words: &[String], streams: &mut Streams<'_>) -> io::Result<Status> {
 }
 
 fn kind(arguments: &Arguments) -> Result<Option<Kind>, Fault> {
-    let flag = |kind: &Kind| format!("--{}", kind.token());
+    let flag = |kind: &Kind| format!("--{}", kind.token().replace('_', "-"));
     let mut given = Kind::ALL
         .into_iter()
         .filter(|kind| arguments.has(&flag(kind)));

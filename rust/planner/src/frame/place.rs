@@ -97,8 +97,9 @@ pub fn place(kind: Kind, octets: &[u8], refusal: Refusal) -> Option<Place> {
         Refusal::MESSAGE_CODE => (one(message), codes(kind)),
         Refusal::INFORMATION => (one(message + 1), Expected::UpTo(254)),
         Refusal::HEADER => beginning(octets)?,
-        Refusal::SERVICE => (2..4, Expected::Octets(vec![0x05, 0x30])),
+        Refusal::SERVICE => (2..4, Expected::Octets(kind.service()?.to_vec())),
         Refusal::TOTAL_LENGTH => (4..6, total(octets.len())),
+        Refusal::FIRST_OCTET => (one(6), Expected::Octets(vec![0x04])),
         _ => return None,
     };
     Some(Place { octets, expected })
@@ -112,6 +113,7 @@ fn one(octet: usize) -> Range<usize> {
 fn header(kind: Kind) -> usize {
     match kind {
         Kind::Routing => 6,
+        Kind::Request | Kind::Acknowledgement => 10,
         Kind::Tp1 | Kind::Cemi => 0,
     }
 }
@@ -119,7 +121,7 @@ fn header(kind: Kind) -> usize {
 fn codes(kind: Kind) -> Expected {
     Expected::OneOf(match kind {
         Kind::Routing => &[0x29],
-        Kind::Tp1 | Kind::Cemi => &[0x11, 0x2e, 0x29],
+        _ => &[0x11, 0x2e, 0x29],
     })
 }
 
@@ -159,7 +161,19 @@ impl Layout {
     fn of(kind: Kind, octets: &[u8]) -> Layout {
         match kind {
             Kind::Tp1 => Layout::of_tp1(octets),
-            Kind::Cemi | Kind::Routing => Layout::of_message(header(kind), octets),
+            Kind::Cemi | Kind::Routing | Kind::Request => Layout::of_message(header(kind), octets),
+            Kind::Acknowledgement => Layout::without_message(header(kind)),
+        }
+    }
+
+    /// An acknowledgement ends where a request's message begins.
+    fn without_message(header: usize) -> Layout {
+        Layout {
+            eff: header,
+            lg: header,
+            most: 0,
+            least: header,
+            value: Some(0),
         }
     }
 

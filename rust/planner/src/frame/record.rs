@@ -1,12 +1,13 @@
 //! What the readers say of octets, for scripts.
 
 use super::place::place;
-use super::words::doubt;
-use super::{Frame, Kind, Message, Told};
+use super::words::{doubt, status};
+use super::{Content, Frame, Kind, Message, Told, Tunnel};
 use crate::address::{Group, Individual};
 use crate::hex::joined;
 use crate::json::Json;
 use klumdray::cemi::Code;
+use klumdray::tunnelling::Acknowledgement;
 use klumdray::Refusal;
 
 type Members = Vec<(&'static str, Json)>;
@@ -17,7 +18,8 @@ pub fn record(octets: &[u8], told: &Told<'_>, line: Option<usize>) -> Json {
     members.extend(line.map(|line| ("line", line.into())));
     members.push(("octets", joined(octets).into()));
     members.extend(match told {
-        Told::Accepted(frame) => accepted(frame),
+        Told::Accepted(Content::Frame(frame)) => accepted(frame),
+        Told::Accepted(Content::Acknowledgement(answer)) => acknowledged(answer),
         Told::Refused(kind, refusal) => refused(octets, *kind, *refusal),
         Told::Untold { likely, refusals } => untold(likely, refusals),
     });
@@ -34,9 +36,8 @@ fn accepted(frame: &Frame<'_>) -> Members {
         true => "extended",
         false => "standard",
     };
-    let mut members = vec![
-        ("kind", frame.kind.token().into()),
-        ("refusal", 0u8.into()),
+    let mut members = beginning(frame.kind, frame.tunnel);
+    members.extend([
         ("format", format.into()),
         ("first_sending", meaning.first_sending.into()),
         ("priority", meaning.priority.into()),
@@ -47,8 +48,31 @@ fn accepted(frame: &Frame<'_>) -> Members {
         ("destination_number", meaning.destination.into()),
         ("count", meaning.count.into()),
         ("payload", joined(frame.payload).into()),
-    ];
+    ]);
     members.extend(frame.message.iter().flat_map(message));
+    members
+}
+
+fn acknowledged(answer: &Acknowledgement) -> Members {
+    let tunnel = Tunnel {
+        channel: answer.channel,
+        counter: answer.counter,
+    };
+    let words = status(answer.status).map_or(Json::Null, Json::from);
+    let mut members = beginning(Kind::Acknowledgement, Some(tunnel));
+    members.extend([("status", answer.status.into()), ("status_words", words)]);
+    members
+}
+
+/// What every accepted kind begins with.
+fn beginning(kind: Kind, tunnel: Option<Tunnel>) -> Members {
+    let mut members = vec![("kind", kind.token().into()), ("refusal", 0u8.into())];
+    members.extend(tunnel.iter().flat_map(|tunnel| {
+        [
+            ("channel", tunnel.channel.into()),
+            ("counter", tunnel.counter.into()),
+        ]
+    }));
     members
 }
 

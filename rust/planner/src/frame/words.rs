@@ -1,12 +1,13 @@
 //! What the readers say of octets, for people.
 
 use super::place::{marked, place, Expected, Place};
-use super::{Frame, Kind, Message, Told};
+use super::{Content, Frame, Kind, Message, Told, Tunnel};
 use crate::address::{Group, Individual};
 use crate::arguments::listed;
 use crate::hex::spaced;
 use crate::words::counted;
 use klumdray::cemi::Code;
+use klumdray::tunnelling::Acknowledgement;
 use klumdray::{Meaning, Refusal};
 use std::ops::Range;
 
@@ -20,23 +21,15 @@ pub fn paragraph(octets: &[u8], told: &Told<'_>, line: Option<usize>) -> String 
     let heading = line.map_or(String::new(), |line| format!("line {line}: "));
     heading
         + &match told {
-            Told::Accepted(frame) => accepted(octets, frame),
+            Told::Accepted(Content::Frame(frame)) => accepted(octets, frame),
+            Told::Accepted(Content::Acknowledgement(answer)) => acknowledged(octets, answer),
             Told::Refused(kind, refusal) => refused(octets, *kind, *refusal),
             Told::Untold { likely, refusals } => untold(octets, likely, refusals),
         }
 }
 
 fn accepted(octets: &[u8], frame: &Frame<'_>) -> String {
-    let kind = match frame.kind {
-        Kind::Tp1 => "TP1 frame",
-        Kind::Cemi => "cEMI message",
-        Kind::Routing => "routing datagram",
-    };
-    let mut fields: Fields = vec![("octets", wrapped(octets))];
-    if frame.kind == Kind::Routing {
-        fields.push(("service", "0530h, ROUTING_INDICATION".into()));
-        fields.push(("total length", octets.len().to_string()));
-    }
+    let mut fields = beginning(octets, frame.kind, frame.tunnel);
     fields.extend(frame.message.iter().flat_map(before));
     fields.extend(meant(frame));
     fields.push(("LG", frame.payload.len().saturating_sub(1).to_string()));
@@ -44,11 +37,65 @@ fn accepted(octets: &[u8], frame: &Frame<'_>) -> String {
     if let (Kind::Tp1, [.., check]) = (frame.kind, octets) {
         fields.push(("check octet", format!("{check:02X}h")));
     }
-    format!(
-        "{kind}, {}\n{}",
-        counted(octets.len(), "octet"),
-        table(&fields)
-    )
+    under_heading(octets, frame.kind, &fields)
+}
+
+fn acknowledged(octets: &[u8], answer: &Acknowledgement) -> String {
+    let kind = Kind::Acknowledgement;
+    let tunnel = Tunnel {
+        channel: answer.channel,
+        counter: answer.counter,
+    };
+    let mut fields = beginning(octets, kind, Some(tunnel));
+    let words = status(answer.status).map_or(String::new(), |words| format!(", {words}"));
+    fields.push(("status", format!("{:02X}h{words}", answer.status)));
+    under_heading(octets, kind, &fields)
+}
+
+/// The names that 001 gives to statuses, and document 02 to 29h.
+pub(super) fn status(status: u8) -> Option<&'static str> {
+    Some(match status {
+        0x00 => "no error",
+        0x21 => "connection id",
+        0x22 => "connection type",
+        0x23 => "connection option",
+        0x24 => "no more connections",
+        0x25 => "no more unique connections",
+        0x27 => "KNX connection",
+        0x29 => "tunnelling layer",
+        _ => return None,
+    })
+}
+
+fn under_heading(octets: &[u8], kind: Kind, fields: &Fields) -> String {
+    let name = match kind {
+        Kind::Tp1 => "TP1 frame",
+        Kind::Cemi => "cEMI message",
+        Kind::Routing => "routing datagram",
+        Kind::Request | Kind::Acknowledgement => kind.name(),
+    };
+    let count = counted(octets.len(), "octet");
+    format!("{name}, {count}\n{}", table(fields))
+}
+
+/// The octets, and what a datagram has before the message.
+fn beginning(octets: &[u8], kind: Kind, tunnel: Option<Tunnel>) -> Fields {
+    let service = match kind {
+        Kind::Tp1 | Kind::Cemi => None,
+        Kind::Routing => Some("0530h, ROUTING_INDICATION"),
+        Kind::Request => Some("0420h, TUNNELLING_REQUEST"),
+        Kind::Acknowledgement => Some("0421h, TUNNELLING_ACK"),
+    };
+    let mut fields: Fields = vec![("octets", wrapped(octets))];
+    if let Some(service) = service {
+        fields.push(("service", service.into()));
+        fields.push(("total length", octets.len().to_string()));
+    }
+    if let Some(tunnel) = tunnel {
+        fields.push(("channel", tunnel.channel.to_string()));
+        fields.push(("counter", tunnel.counter.to_string()));
+    }
+    fields
 }
 
 fn before(message: &Message<'_>) -> Fields {
@@ -144,7 +191,7 @@ fn refused(octets: &[u8], kind: Kind, refusal: Refusal) -> String {
 pub(super) fn doubt(likely: &[Kind]) -> String {
     let names: Vec<&str> = likely.iter().map(|kind| kind.name()).collect();
     match names[..] {
-        [] => "neither TP1 nor cEMI nor routing".into(),
+        [] => "neither TP1 nor cEMI nor routing nor tunnelling".into(),
         _ => format!("{}, not told apart", listed(&names)),
     }
 }

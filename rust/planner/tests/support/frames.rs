@@ -15,19 +15,32 @@ pub fn whole(generator: &mut Generator, kind: Kind) -> Vec<u8> {
     };
     let payload = generator.octets(length as usize);
     let mut room = [0; 300];
+    let (channel, counter) = (generator.octet(), generator.octet());
     let mut octets = match kind {
         Kind::Tp1 => {
             let size = tp1::write(&meaning, &payload, &mut room).expect("numbers in range");
             return room[..size].to_vec();
         }
-        Kind::Cemi => message(generator, &meaning, &payload, None),
+        Kind::Cemi | Kind::Request => message(generator, &meaning, &payload, None),
         Kind::Routing => message(generator, &meaning, &payload, Some(Code::Indication)),
+        Kind::Acknowledgement => vec![],
     };
-    if kind == Kind::Routing {
-        octets.splice(0..0, [0x06, 0x10, 0x05, 0x30, 0, 0]);
+    if let Kind::Request | Kind::Acknowledgement = kind {
+        octets.splice(0..0, [channel, counter, generator.octet()]);
     }
+    octets.splice(0..0, head(kind).iter().copied());
     mend_total(kind, &mut octets);
     octets
+}
+
+/// What a datagram begins with; its total length is to be mended.
+pub fn head(kind: Kind) -> &'static [u8] {
+    match kind {
+        Kind::Tp1 | Kind::Cemi => &[],
+        Kind::Routing => &[0x06, 0x10, 0x05, 0x30, 0, 0],
+        Kind::Request => &[0x06, 0x10, 0x04, 0x20, 0, 0, 0x04],
+        Kind::Acknowledgement => &[0x06, 0x10, 0x04, 0x21, 0, 0, 0x04],
+    }
 }
 
 /// A message with additional information and the bits that are not read in any state.
@@ -69,7 +82,7 @@ fn meaning(generator: &mut Generator) -> Meaning {
 /// In a datagram, the total length that it has.
 pub fn mend_total(kind: Kind, octets: &mut [u8]) {
     let length = octets.len();
-    if let (Kind::Routing, [_, _, _, _, t1, t0, ..]) = (kind, octets) {
+    if let ([_, ..], [_, _, _, _, t1, t0, ..]) = (head(kind), octets) {
         [*t1, *t0] = (length as u16).to_be_bytes();
     }
 }
@@ -101,7 +114,7 @@ fn damage(generator: &mut Generator, octets: &mut [u8]) {
     for _ in 0..1 + generator.below(3) {
         let reach = match generator.below(4) {
             0 => octets.len(),
-            _ => octets.len().min(16),
+            _ => octets.len().min(20),
         };
         let place = generator.below(reach);
         let ends = [0x00, 0x0f, 0x10, 0xfe, 0xff];
