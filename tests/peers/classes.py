@@ -1,9 +1,9 @@
 """The classes that differences fall into. Each is a rule on the octets of a row; the docstring of the
-rule says it in words, the sentence is document 01's."""
+rule says it in words, the sentence is document 01's, or document 02's (R-1)."""
 
 from collections import namedtuple
 
-from rows import HEADER
+from rows import CONNECTION, HEADER, SERVICES, START
 
 # cEMI's other message codes, which tshark reads: L_Raw, L_Poll_Data, L_Busmon, T_Data and the
 # local device management.
@@ -15,16 +15,16 @@ Class = namedtuple("Class", "name facts rule exact right sentence")
 
 
 class Parts:
-    """The parts of a row as far as its octets go, by document 01's layouts; None where they end."""
+    """The parts of a row as far as its octets go, by the documents' layouts; None where they end."""
 
     def __init__(self, row):
         octets = row.octets
         self.form, self.size = row.form, len(octets)
         self.total = self.service = None
-        if row.form == "routing":
-            if len(octets) >= HEADER:
-                self.service, self.total = octets[2:4], int.from_bytes(octets[4:HEADER], "big")
-            octets = octets[HEADER:]
+        if row.form != "cemi" and len(octets) >= HEADER:
+            self.service, self.total = (int.from_bytes(octets[k : k + 2], "big") for k in (2, 4))
+        self.fourth = at(octets, HEADER + CONNECTION - 1)
+        octets = octets[START[row.form] :]
         self.code, self.a = at(octets, 0), at(octets, 1)
         self.information = octets[2 : 2 + (self.a or 0)]
         behind = octets[2 + (self.a or 0) :]
@@ -63,7 +63,7 @@ def total_below_datagram(parts):
 
 def nothing(parts):
     """a datagram has no octets"""
-    return parts.form == "routing" and parts.size == 0
+    return parts.form != "cemi" and parts.size == 0
 
 
 def eff(parts):
@@ -92,8 +92,13 @@ def other_code(parts):
 
 
 def other_service(parts):
-    """the service is not 0530h"""
-    return parts.service != b"\x05\x30"
+    """the service is not the form's: 0530h, 0420h, 0421h"""
+    return parts.service != SERVICES[parts.form]
+
+
+def fourth_octet(parts):
+    """the octet behind a request's counter is not 00h"""
+    return parts.form == "request" and parts.fourth != 0
 
 
 def behind_elements(information, least):
@@ -150,7 +155,7 @@ CLASSES = (
     Class("total length below 6", ("number", "place", "refusal 10", "refusal 11", "refusal 12"), total_below_header,
           True, OURS, TOTAL),
     Class("other service", ("refusal 11",), other_service, True, OURS,
-          "11 | service not 0530h"),
+          "Refusal 11 now names the service wanted by the call."),
     Class("several packets in a datagram", ("refusal 12",), total_below_datagram, True, OURS, TOTAL),
     Class("other message code", ("refusal 7",), other_code, True, OURS,
           "7 | message code not 11h, 2Eh, 29h; in routing, not 29h"),
@@ -162,6 +167,8 @@ CLASSES = (
           "LG is 0 to 254; 255 is an escape (002)."),
     Class("standard with LG above 15", ("refusal 9",), long_standard, True, OURS,
           "9 | cEMI standard with LG above 15"),
+    Class("octet behind a request's counter", ("mark on the octet 00h",), fourth_octet, True, OURS,
+          "The octet 00h isn't read."),
     Class("additional information in no elements", ("mark in the information",), loose_information, True, INSIDE,
           "a octets of additional information (a up to 254)"),
     Class("additional information ends in an element", ("octets shown of the information",), cut_element, True, OURS,

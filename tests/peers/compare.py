@@ -1,5 +1,5 @@
-"""Compares what `klumdray decode` and tshark say of the same cEMI messages and routing datagrams,
-and prints each class of differences. Ends with status 1 if a difference falls into no class, or a
+"""Compares what `klumdray decode` and tshark say of the same cEMI messages, routing and tunnelling
+datagrams, and prints each class of differences. Ends with status 1 if a difference falls into no class, or a
 class is not what its rule says. The one argument is the program."""
 
 import json
@@ -12,7 +12,13 @@ import dissect
 import facts
 import rows
 
-FORMS = ("cemi", "routing")
+# The option that has `klumdray decode` read a form.
+OPTIONS = {
+    "cemi": "--cemi",
+    "routing": "--routing",
+    "request": "--tunnelling-request",
+    "acknowledgement": "--tunnelling-ack",
+}
 
 # A row with what both say of it; `facts` by their names, `differing` the names of those that differ.
 Case = namedtuple("Case", "row parts ours found facts differing")
@@ -20,7 +26,7 @@ Case = namedtuple("Case", "row parts ours found facts differing")
 
 def decoded(program, form, text, *words):
     """The answers to frames given as words, or as lines of text; a refusal is no fault here."""
-    command = [program, "decode", "--json", f"--{form}", *words]
+    command = [program, "decode", "--json", OPTIONS[form], *words]
     ended = subprocess.run(command, input=text, stdout=subprocess.PIPE, text=True)
     if ended.returncode not in (0, 1):
         sys.exit(f"{' '.join(command)} ended with status {ended.returncode}")
@@ -94,12 +100,12 @@ def print_class(c, listed):
 
 def print_verdicts(all_cases):
     """How many rows we accept or refuse, beside those in which tshark marks something or nothing."""
-    print("         rows  accepted   refused  accepted   refused")
-    print("               unmarked    marked    marked  unmarked")
-    for form in FORMS:
+    print("                 rows  accepted   refused  accepted   refused")
+    print("                       unmarked    marked    marked  unmarked")
+    for form in rows.FORMS:
         verdicts = [(c.ours["refusal"] == 0, c.found.marks == []) for c in all_cases if c.row.form == form]
         counts = [verdicts.count(v) for v in ((True, True), (False, False), (True, False), (False, True))]
-        print(f"{form:7}{len(verdicts):6}" + "".join(f"{count:10}" for count in counts))
+        print(f"{form:15}{len(verdicts):6}" + "".join(f"{count:10}" for count in counts))
 
 
 def print_faults(listed, head):
@@ -111,7 +117,7 @@ def print_faults(listed, head):
 
 
 def main(program):
-    all_cases = [case for form in FORMS for case in cases(program, form)]
+    all_cases = [case for form in rows.FORMS for case in cases(program, form)]
     print_verdicts(all_cases)
     sorted_out, unknown = sort_out(all_cases)
     faults = print_faults(unknown, "in no class")

@@ -49,12 +49,13 @@ def checksum(header):
     return (0xFFFF - total).to_bytes(2, "big")
 
 
-def in_udp(octets):
-    """The datagram as it is sent to the routing multicast address 224.0.23.12."""
+def in_udp(octets, form):
+    """The datagram as it is sent: in routing to the multicast address 224.0.23.12."""
+    to = (224, 0, 23, 12) if form == "routing" else (192, 168, 1, 2)
     length = UDP_HEADER + len(octets)
     ports = PORT.to_bytes(2, "big") * 2
     head = b"\x45\x00" + (IP_HEADER + length).to_bytes(2, "big") + bytes((0, 0, 0, 0, 16, 17))
-    ends = bytes((192, 168, 1, 1, 224, 0, 23, 12))
+    ends = bytes((192, 168, 1, 1, *to))
     head += checksum(head + ends) + ends
     return head + ports + length.to_bytes(2, "big") + b"\0\0" + octets
 
@@ -89,7 +90,7 @@ def walk(node, start, into, on):
 
 
 def dissection(packet, form):
-    start = IP_HEADER + UDP_HEADER if form == "routing" else 0
+    start = 0 if form == "cemi" else IP_HEADER + UDP_HEADER
     into = Dissection()
     for protocol in packet.iter("proto"):
         name = protocol.get("name")
@@ -103,11 +104,11 @@ def dissection(packet, form):
 
 def dissect(rows, form):
     """A dissection for each row."""
-    routing = form == "routing"
-    packets = [in_udp(row.octets) if routing else row.octets for row in rows]
+    alone = form == "cemi"
+    packets = [row.octets if alone else in_udp(row.octets, form) for row in rows]
     with tempfile.TemporaryDirectory() as directory:
         file = pathlib.Path(directory) / "rows.pcap"
-        file.write_bytes(capture(IP if routing else USER, packets))
+        file.write_bytes(capture(USER if alone else IP, packets))
         ended = subprocess.run(
             ["tshark", "-n", "-r", str(file), "-o", AS_CEMI, "-T", "pdml", "-J", " ".join(DISSECTORS)],
             # What a user has set up for tshark is none of ours.

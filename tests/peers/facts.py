@@ -1,13 +1,13 @@
 """What is compared of a row: each fact with our side and tshark's.
 
-Of every row, the refusal that document 01 gives to the values that tshark shows. Of an accepted row,
+Of every row, the refusal that documents 01 and 02 give to the values that tshark shows. Of an accepted row,
 every value, every octet handed out, and whether tshark marks anything. Of a refused row, the place of
 the refusal, and whether tshark marks the field there."""
 
 import re
 from collections import namedtuple
 
-from rows import HEADER
+from rows import CONNECTION, HEADER, SERVICES, START
 
 Fact = namedtuple("Fact", "name ours theirs")
 
@@ -23,31 +23,58 @@ FAULTY = {
     10: ("knxip.headerlength", "knxip.version"),
     11: ("knxip.service",),
     12: ("knxip.totallength",),
+    19: ("knxip.struct.length", "knxip.data"),
 }
+# What is left behind an acknowledgement.
+LEFT = "knxip.data"
 # What tshark marks if octets are missing; behind the last one it says what it expected there.
-SHORT = ("packet", "cemi", "cemi.ai.n", "cemi.len")
+SHORT = ("packet", "cemi", "cemi.ai.n", "cemi.len", "knxip.struct.length", "knxip.folder")
 NO_LENGTH = "? Length: expected 1 byte"
-MARKED = ("mark in the information", "mark on the sequence number", "mark in the payload", "mark elsewhere")
+MARKED = ("mark in the information", "mark on the sequence number", "mark in the payload",
+          "mark on the octet 00h", "mark elsewhere")
 
 
 def start(row):
     """Where the cEMI message begins."""
-    return HEADER if row.form == "routing" else 0
+    return START[row.form]
 
 
 def shown_number(row, found):
-    """The refusal that document 01 gives to the values that tshark shows."""
+    """The refusal that documents 01 and 02 give to the values that tshark shows."""
+    number = header_number(row, found)
+    if number or row.form == "acknowledgement":
+        return number or (5 if shown_left(found) else 0)
+    codes = (MESSAGES["indication"],) if row.form == "routing" else MESSAGES.values()
+    return message_number(row, found, codes)
+
+
+def header_number(row, found):
     if row.form == "cemi":
-        return message_number(row, found, MESSAGES.values())
-    if not found.packets:
+        return 0
+    tests = (
+        (1, not found.packets),
+        (10, found.value("knxip.headerlength") != 6 or found.value("knxip.version") != 0x10),
+        (11, found.value("knxip.service") != SERVICES[row.form]),
+        (12, found.value("knxip.totallength") != len(row.octets)),
+    )
+    refused = next((number for number, applies in tests if applies), 0)
+    return refused if refused or row.form == "routing" else connection_number(found)
+
+
+def connection_number(found):
+    if found.value("knxip.totallength") < HEADER + CONNECTION:
         return 1
-    if found.value("knxip.headerlength") != 6 or found.value("knxip.version") != 0x10:
-        return 10
-    if found.value("knxip.service") != 0x0530:
-        return 11
-    if found.value("knxip.totallength") != len(row.octets):
-        return 12
-    return message_number(row, found, (MESSAGES["indication"],))
+    return 0 if shown_first(found) == 0x04 else 19
+
+
+def shown_first(found):
+    """The octet behind the header, be it a length that tshark takes for one or not."""
+    shown = (field for field in found.fields if field.name in FAULTY[19] and field.place == HEADER)
+    return next((field.octets[0] for field in shown if field.octets), None)
+
+
+def shown_left(found):
+    return next((field for field in found.found(LEFT) if field.place == HEADER + CONNECTION), None)
 
 
 def message_number(row, found, codes):
@@ -111,6 +138,13 @@ def upper_values(found, payload):
         yield "APCI", *(("cemi.ac", service >> 6) if found.found("cemi.ac") else ("cemi.ax", service))
 
 
+def tunnel_values(ours):
+    """What both tunnelling services have between header and message."""
+    if "channel" in ours:
+        yield "channel", "knxip.channel", ours["channel"]
+        yield "counter", "knxip.seqctr", ours["counter"]
+
+
 def worded_facts(ours, found):
     """What tshark says in words, beside what document 01 does."""
     # "in a request, bit 5 at 1 asks for repetitions"; elsewhere it is 1 in a first sending.
@@ -134,6 +168,8 @@ def octet_facts(found, name, part, begin):
 
 
 def mark_name(row, parts, mark):
+    if mark.on == "knxip.reserved":
+        return "mark on the octet 00h"
     begin = start(row) + 2
     end = begin + len(parts.information)
     if begin <= mark.place < end or mark.place == end and mark.on == NO_LENGTH:
@@ -143,9 +179,27 @@ def mark_name(row, parts, mark):
     return "mark in the payload" if mark.place >= len(row.octets) - len(parts.payload) else "mark elsewhere"
 
 
+def status_facts(ours, found):
+    yield Fact("status", ours["status"], found.value("knxip.status"))
+    words = next(field.words for field in found.found("knxip.status"))
+    name = re.fullmatch(r"Status: (?:E_)?(.*) \(0x..\)", words)[1]
+    name = {"OK": "no error"}.get(name, name.lower().replace("_", " ").replace("tunneling", "tunnelling"))
+    if ours["status_words"]:
+        yield Fact("status in words", ours["status_words"].lower(), name)
+
+
+def acknowledged_facts(ours, found):
+    for name, field, value in tunnel_values(ours):
+        yield Fact(name, value, found.value(field))
+    yield from status_facts(ours, found)
+    marks = [f"{mark.on}: {mark.words}" for mark in found.marks]
+    yield Fact("mark elsewhere", "accepted", "; ".join(marks) or "accepted")
+
+
 def accepted_facts(row, parts, ours, found):
     payload, information = bytes.fromhex(ours["payload"]), bytes.fromhex(ours["information"])
-    for name, field, value in (*values(ours, payload, information), *upper_values(found, payload)):
+    listed = (*tunnel_values(ours), *values(ours, payload, information), *upper_values(found, payload))
+    for name, field, value in listed:
         yield Fact(name, value, found.value(field))
     yield from worded_facts(ours, found)
     yield from octet_facts(found, "information", information, start(row) + 2)
@@ -157,33 +211,40 @@ def accepted_facts(row, parts, ours, found):
 
 def marks_fault(row, number, found):
     """Whether tshark marks the field that the refusal is about."""
+    places = {7: start(row), 19: HEADER}
     for mark in found.marks:
         if number == 1 and (mark.on in SHORT or mark.place == len(row.octets) and mark.on.startswith("?")):
             return True
-        if mark.on in FAULTY.get(number, ()) and (number != 7 or mark.place == start(row)):
+        if mark.on in faulty(row, number) and mark.place == places.get(number, mark.place):
             return True
     return False
+
+
+def faulty(row, number):
+    """The fields that a refusal of the row is about."""
+    return (LEFT,) if number == 5 and row.form == "acknowledgement" else FAULTY.get(number, ())
 
 
 def shown_place(row, number, found):
     """Where tshark shows the field that the refusal is about."""
     if number == 1:
         return len(row.octets)
-    names = FAULTY.get(number, ())
+    names = faulty(row, number)
     if number == 10 and found.value("knxip.headerlength") == 6:
         names = ("knxip.version",)
     field = next((field for field in found.fields if field.name in names), None)
     if field is None:
         return None
     # Octets are left behind LG, the TPCI and as many octets as LG says.
-    return field.place + 2 + field.value if number == 5 else field.place
+    return field.place + 2 + field.value if field.name == "cemi.len" and number == 5 else field.place
 
 
 def facts(row, parts, ours, found):
     number = ours["refusal"]
     yield Fact("number", number, shown_number(row, found))
     if number == 0:
-        yield from accepted_facts(row, parts, ours, found)
+        acknowledged = row.form == "acknowledgement"
+        yield from acknowledged_facts(ours, found) if acknowledged else accepted_facts(row, parts, ours, found)
         return
     yield Fact("place", ours["place"], shown_place(row, number, found))
     marked = marks_fault(row, number, found)

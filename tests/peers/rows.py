@@ -1,5 +1,5 @@
-"""The rows that both sides read: cEMI messages and routing datagrams made from a fixed seed, a good
-one with each octet at each of its values, and the sources' examples of tests/telegrams/."""
+"""The rows that both sides read: cEMI messages, routing and tunnelling datagrams made from a fixed
+seed, a good one with each octet at each of its values, and the sources' examples of tests/telegrams/."""
 
 import pathlib
 import runpy
@@ -13,8 +13,19 @@ EACH = 4500
 # `origin` says how the row came about; `octets` are the datagram, or the message.
 Row = namedtuple("Row", "form octets origin")
 
-HEADER = 6
-GOOD = "06 10 05 30 00 14 29 00 BC C0 00 00 12 34 04 00 80 56 78 9A"
+HEADER, CONNECTION = 6, 4
+FORMS = ("cemi", "routing", "request", "acknowledgement")
+# The service of a datagram, and where its cEMI message begins; an acknowledgement ends there.
+SERVICES = {"routing": 0x0530, "request": 0x0420, "acknowledgement": 0x0421}
+START = {"cemi": 0, "routing": HEADER, "request": HEADER + CONNECTION, "acknowledgement": HEADER + CONNECTION}
+MESSAGE = "29 00 BC C0 00 00 12 34 04 00 80 56 78 9A"
+# P7's message, P7, that message in a tunnelling request, and the acknowledgement of that request.
+GOOD = {
+    "cemi": MESSAGE,
+    "routing": f"06 10 05 30 00 14 {MESSAGE}",
+    "request": f"06 10 04 20 00 18 04 01 00 00 {MESSAGE}",
+    "acknowledgement": "06 10 04 21 00 0A 04 01 00 00",
+}
 CODES = (0x11, 0x2E, 0x29)
 # Kinds of additional information with a length that each may have; FEh is the manufacturer's own.
 KINDS = {1: 2, 2: 8, 3: 1, 4: 2, 5: 4, 6: 4, 7: 2, 8: 4, 9: 3, 10: 2, 0xFE: 6}
@@ -43,12 +54,13 @@ class Chance:
 
 
 class Message:
-    """A cEMI message that document 01 accepts, by its parts, and what is put around it."""
+    """A cEMI message that document 01 accepts, by its parts, and what is put around it; in an
+    acknowledgement only that."""
 
-    def __init__(self, chance, routing):
+    def __init__(self, chance, form):
         self.chance = chance
-        self.routing = routing
-        self.code = 0x29 if routing else chance.one_of(CODES)
+        self.form = form
+        self.code = 0x29 if form == "routing" else chance.one_of(CODES)
         self.information = b""
         self.information_length = None
         extended = chance.below(2)
@@ -58,7 +70,8 @@ class Message:
         self.addresses = chance.octets(4)
         self.payload = self.any_payload(255 if extended else 16)
         self.length = len(self.payload) - 1
-        self.header = [6, 0x10, 0x05, 0x30]
+        self.header = [6, 0x10, *SERVICES.get(form, 0).to_bytes(2, "big")]
+        self.connection = [4, *chance.octets(2), 0] if START[form] > HEADER else []
         self.more = 0
         self.total = None
         self.left = None
@@ -69,13 +82,18 @@ class Message:
             return bytes.fromhex(self.chance.one_of(PAYLOADS))
         return self.chance.octets(1 + self.chance.below(self.chance.one_of((4, 16, most))))
 
-    def octets(self):
+    def message(self):
+        if self.form == "acknowledgement":
+            return b""
         count = len(self.information) if self.information_length is None else self.information_length
         octets = bytes((self.code, count)) + self.information + bytes((self.control, self.hops))
-        octets += self.addresses + bytes((self.length,)) + self.payload + self.behind
+        return octets + self.addresses + bytes((self.length,)) + self.payload
+
+    def octets(self):
+        octets = bytes(self.connection) + self.message() + self.behind
         if self.left is not None:
             octets = octets[: self.left % (len(octets) + 1)]
-        if self.routing:
+        if self.form != "cemi":
             total = HEADER + len(octets) + self.more if self.total is None else self.total
             octets = bytes(self.header) + (total % 2**16).to_bytes(2, "big") + octets
         return octets
@@ -197,26 +215,41 @@ def small_total(message):
     message.total = message.chance.below(8)
 
 
+def first_octet(message):
+    message.connection[0] = message.chance.below(message.chance.one_of((8, 256)))
+
+
+def fourth_octet(message):
+    """00h in a request, where it is not read; the status of an acknowledgement."""
+    message.connection[3] = message.chance.below(message.chance.one_of((0x30, 256)))
+
+
 MESSAGE_FAULTS = (
     any_code, known_code, information, information, odd_information, odd_information,
     escaped_information, other_information_length, extended_format, escaped_length, long_standard,
     other_length, reserved_bits, error_mark, cut_short, cut_short, last_octet_lost, octets_left,
 )
 HEADER_FAULTS = (header_length, version, known_service, any_service, total_length, total_length, small_total)
+CONNECTION_FAULTS = (first_octet, fourth_octet)
+FAULTS = {
+    "cemi": MESSAGE_FAULTS,
+    "routing": MESSAGE_FAULTS + HEADER_FAULTS * 2,
+    "request": MESSAGE_FAULTS + HEADER_FAULTS * 2 + CONNECTION_FAULTS * 4,
+    "acknowledgement": (cut_short, octets_left) + HEADER_FAULTS + CONNECTION_FAULTS * 4,
+}
 
 
-def random_octets(chance, routing):
-    head = b"\x06\x10\x05\x30" if routing and chance.below(2) else b""
+def random_octets(chance, form):
+    head = bytes.fromhex(GOOD[form])[:4] if form != "cemi" and chance.below(2) else b""
     return head + chance.octets(chance.below(chance.one_of((8, 32, 300))))
 
 
 def made_row(chance, form):
-    routing = form == "routing"
     kind = chance.below(16)
     if kind == 0:
-        return Row(form, random_octets(chance, routing), "random octets")
-    message = Message(chance, routing)
-    listed = MESSAGE_FAULTS + HEADER_FAULTS * 2 if routing else MESSAGE_FAULTS
+        return Row(form, random_octets(chance, form), "random octets")
+    message = Message(chance, form)
+    listed = FAULTS[form]
     # None, mostly one, sometimes several at once: the order of refusals shows only then.
     number = 0 if kind < 5 else 1 if kind < 12 else 2 + chance.below(2)
     faults = [chance.one_of(listed) for _ in range(number)]
@@ -231,13 +264,13 @@ def made(form):
 
 
 def swept(form):
-    """P7's datagram or its message: each octet at each of its values, and cut off at each place."""
-    good = bytes.fromhex(GOOD)[0 if form == "routing" else HEADER :]
+    """The good one: each octet at each of its values, and cut off at each place."""
+    good = bytes.fromhex(GOOD[form])
     for place in range(len(good)):
-        yield Row(form, good[:place], f"P7 cut off at {place}")
+        yield Row(form, good[:place], f"the good one cut off at {place}")
         for value in range(256):
             octets = good[:place] + bytes((value,)) + good[place + 1 :]
-            yield Row(form, octets, f"P7 with {value:02X} at {place}")
+            yield Row(form, octets, f"the good one with {value:02X} at {place}")
 
 
 def told(form):
