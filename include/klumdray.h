@@ -6,7 +6,7 @@
  * input. So is what this file says of the numbers' ranges (crates/promises/proofs/Given.antt), of
  * the answers' bits, of the parts of the caller's octets, of the list in a trace's room, of the
  * frame in a step's memory and of the channels in their table, as the helpers at its end read them
- * (Surface.antt there), and of the test for an overlap (Overlap.antt).
+ * (Surface.antt and SurfaceTunnelling.antt there), and of the test for an overlap (Overlap.antt).
  *
  * Octets. A slice is a pointer and then a length of 64 bits, on every machine; a null pointer with
  * length 0 is an empty slice. Otherwise the pointer must have that many octets behind it. All
