@@ -13,7 +13,7 @@ use Rattle.cemi.specs.Writing.{messageInRange}
 use Rattle.cemi.specs.declared.Codes.the-variants.{All}
 use Rattle.cemi.specs.declared.Message.{Message}
 use Rattle.channels.proofs.TableLaws.{at-none}
-use Rattle.channels.specs.Table.{many, closed, channelAt, put, counted}
+use Rattle.channels.specs.Table.{many, closed, channelAt}
 use Rattle.channels.specs.declared.Channel.{Channel}
 use Rattle.exchange.specs.Confirming.{confirmed}
 use Rattle.exchange.specs.Receiving.{received, sentBack, deliveredMessage, ReceivedOn}
@@ -27,7 +27,7 @@ use Rattle.frame.specs.declared.Refusal.the-variants.{OutOfRange, NotOpen}
 use Rattle.frame.specs.declared.Written.the-variants.{Put, Refused}
 use Rattle.frame.specs.declared.Written.{Written}
 use Rattle.klumdray.proofs.WriterNumbers.{request-most}
-use Rattle.klumdray.specs.Channels.{channelSize, receivePlace, sendPlace, firstChannel, channelsFrom, channelsIn, areChannels, withOctet, blockReceived, blockConfirmed, receivedNumber, deliveredPayload, confirmedNumber, receivedThrough, confirmedThrough, sentThrough, TookThrough, SentThrough, ConfirmedThrough}
+use Rattle.klumdray.specs.Channels.{channelSize, channelsFrom, channelsIn, areChannels, withOctet, blockReceived, blockConfirmed, receivedNumber, deliveredPayload, confirmedNumber, receivedThrough, confirmedThrough, sentThrough, TookThrough, SentThrough, ConfirmedThrough}
 use Rattle.klumdray.specs.Numbers.{writtenNumber}
 use Rattle.klumdray.specs.Stages.{channelOrNone, octetIn, heldChannel, Sized}
 use Rattle.octets.proofs.Truth.{and-true, by-cases}

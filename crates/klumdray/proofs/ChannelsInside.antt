@@ -1,16 +1,14 @@
 -- A call of the surface over the block is the call inside over the table that the block holds: answer, table and room. Of the block it
 -- changes at most the one counter.
-use Prim.Native.Nat.{ℕ, zero, suc, _+_, _-_, _*_, _≤_}
+use Prim.Native.Nat.{ℕ, zero, suc, _+_, _-_, _*_}
 use mathlib.Core.Bool.{Bool, true, false, _&&_}
-use mathlib.Core.List.{List, [], _∷_}
+use mathlib.Core.List.{List, _∷_}
 use mathlib.Core.Path.{_≡_, refl, sym, ap, _∙_}
 use native.Mathlib.Omega.{arith}
 use lib.Dec.{eqb}
 use lib.ListN.{length, getD, drop, set, length-set}
 use lib.Seq.{getD-set-other}
 use borrow.Author.Tests.{eqb-true}
-use Rattle.cemi.specs.Writing.{messageInRange}
-use Rattle.cemi.specs.declared.Codes.the-variants.{All}
 use Rattle.cemi.specs.declared.Message.{Message}
 use Rattle.channels.proofs.CallLaws.{put-back, called-one}
 use Rattle.channels.specs.Calls.{Called, answered}
@@ -30,8 +28,6 @@ use Rattle.klumdray.proofs.ChannelLaws.{in-three, octet-place, held, to
 use Rattle.klumdray.specs.Channels.{channelSize, receivePlace, sendPlace, firstChannel, channelsFrom, channelsIn, areChannels, withOctet, blockReceived, blockConfirmed, receivedNumber, deliveredPayload, confirmedNumber, receivedThrough, confirmedThrough, sentThrough, TookThrough, SentThrough, ConfirmedThrough}
 use Rattle.klumdray.specs.Decoding.{channelPlace, channelOpen, channelReceive, channelSend, ChangesAt}
 use Rattle.klumdray.specs.Numbers.{writtenNumber}
-use Rattle.klumdray.specs.Stages.{heldChannel}
-use Rattle.octets.specs.Octets.{octetAt}
 use Rattle.octets.specs.Room.{over}
 use Rattle.tunnelling.specs.Layout.{requestOctets}
 use Rattle.tunnelling.specs.Reading.{channelIn}

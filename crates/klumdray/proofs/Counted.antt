@@ -1,7 +1,7 @@
 -- The block and the room after a call, by its answer: a counter is raised exactly where the answer says so, as the header's helpers read it,
 -- and a refused call leaves everything as it was.
 use Prim.Native.Nat.{ℕ, _*_}
-use mathlib.Core.Bool.{Bool, true, false}
+use mathlib.Core.Bool.{true, false}
 use mathlib.Core.List.{List}
 use mathlib.Core.Path.{_≡_, refl, sym, ap, _∙_}
 use native.Mathlib.Omega.{arith}

@@ -1,12 +1,11 @@
 -- The numbers of tunnelling's calls taken apart again: each is what the call inside answers, and nothing is lost.
-use Prim.Native.Nat.{ℕ, _+_, _*_, _^_, _≤_, _<_}
-use mathlib.Core.Bool.{Bool, true, false, cond, not, _&&_}
+use Prim.Native.Nat.{ℕ, _+_, _≤_, _<_}
+use mathlib.Core.Bool.{Bool, true, false, not, _&&_}
 use mathlib.Core.List.{List, [], _∷_}
-use mathlib.Core.Logic.{_↔_}
 use mathlib.Core.Path.{_≡_, refl, sym, ap, _∙_}
 use native.Mathlib.Omega.{arith}
 use lib.Dec.{eqb}
-use lib.ListN.{length, drop, getD}
+use lib.ListN.{length, getD}
 use Rattle.cemi.proofs.Apart.{frame-refused as message-refused, frame-one as message-one}
 use Rattle.cemi.proofs.RoundTrip.{read-laid as cemi-laid}
 use Rattle.cemi.specs.Answers.{messageValues, cemiNumbered}
@@ -17,7 +16,6 @@ use Rattle.cemi.specs.declared.CemiAnswer.the-variants.{Frame as Message-is, Re
 use Rattle.cemi.specs.declared.Codes.the-variants.{All}
 use Rattle.cemi.specs.declared.Message.{Message}
 use Rattle.channels.specs.Table.{channelAt}
-use Rattle.channels.specs.declared.Channel.{Channel}
 use Rattle.exchange.proofs.Apart.{delivered-refused, again-refused, delivered-again, refused-one, raised-refused, kept-refused, unconfirmed-one}
 use Rattle.exchange.proofs.Exactly.{Arrives, delivered-iff}
 use Rattle.exchange.specs.Answers.{receivedNumbered, confirmedNumbered}
@@ -40,7 +38,7 @@ use Rattle.klumdray.proofs.ReaderNumbers.{code-some, cemi-answer}
 use Rattle.klumdray.proofs.Telling.{number-alone, tells-refused, tells-accepted, accepted-values}
 use Rattle.klumdray.proofs.WriterNumbers.{written-answer, request-most}
 use Rattle.klumdray.specs.Channels.{channelsIn, areChannels, receivedNumber, deliveredPayload, confirmedNumber, receivedThrough, confirmedThrough, sentThrough, TookThrough, SentThrough, ConfirmedThrough}
-use Rattle.klumdray.specs.Decoding.{numberIn, writtenIn, writtenFrom, codeNumberIn, messageCodeIn, errorMarkIn, meaningValuesIn, payloadLengthIn, deliveredIn, raisedIn, cemiFrom, requestFrom, acknowledgedFrom, confirmedFrom, receivedFrom, Tells, TellsReading, TellsTaking}
+use Rattle.klumdray.specs.Decoding.{numberIn, writtenIn, writtenFrom, codeNumberIn, messageCodeIn, errorMarkIn, meaningValuesIn, deliveredIn, cemiFrom, requestFrom, acknowledgedFrom, confirmedFrom, receivedFrom, Tells, TellsReading, TellsTaking}
 use Rattle.klumdray.specs.Numbers.{messageNumber, cemiNumber, messageAnswer, requestPayload, requestAnswered, acknowledgedNumber, acknowledgementAnswered}
 use Rattle.octets.proofs.Octets.{octets-drop}
 use Rattle.octets.proofs.Truth.{by-cases, never}
