@@ -79,7 +79,7 @@ struct place {
 static struct place places[TABLE_PLACES];
 
 /* The table is read through this; a board has little memory. */
-static uint8_t chunk[512];
+static uint8_t chunk[256];
 static size_t chunk_length, chunk_at;
 /* 1 once the table has ended, or is none. */
 static int is_broken;

@@ -8,6 +8,8 @@ use reference::site::Site;
 use reference::tracer::{self, Query, Stop, Traced};
 use reference::{routing, tp1, Format, Given, Meaning};
 
+pub mod tunnelling;
+
 pub const SETTINGS_SIZE: usize = 10;
 pub const MEMORY_SIZE: usize = 530;
 const PART_SIZE: usize = MEMORY_SIZE / 2;
@@ -71,7 +73,7 @@ fn number(function: Function, numbers: &[u32], slices: &[&[u8]], rooms: &mut [Ve
             };
             packed_why(why(numbers, &site, line)).into()
         }
-        _ => panic!("{function:?} has other arguments"),
+        (function, numbers, slices, rooms) => tunnelling::number(function, numbers, slices, rooms),
     }
 }
 
@@ -80,8 +82,8 @@ fn octet(number: u32) -> u8 {
     number.min(255) as u8
 }
 
-/// A line, whose range is all that an octet has.
-fn line(number: u32) -> Result<u8, u8> {
+/// A number whose range is all that an octet has: a line, or what stands so in a datagram.
+fn whole_octet(number: u32) -> Result<u8, u8> {
     u8::try_from(number).map_err(|_| RANGE)
 }
 
@@ -110,7 +112,7 @@ fn query(numbers: &[u32]) -> Result<Query, u8> {
         panic!("{} numbers of a query", numbers.len());
     };
     Ok(Query {
-        start: line(start)?,
+        start: whole_octet(start)?,
         kind: octet(kind),
         destination: address(destination)?,
         count: octet(count),
@@ -119,7 +121,7 @@ fn query(numbers: &[u32]) -> Result<Query, u8> {
 
 /// "the line among its numbers": 14 whatever else is wrong.
 fn why(numbers: &[u32], site: &Site<'_>, asked: u32) -> Result<Option<Stop>, u8> {
-    tracer::why(&query(numbers)?, site, line(asked)?)
+    tracer::why(&query(numbers)?, site, whole_octet(asked)?)
 }
 
 /// "settings not 10 or memory not 530 octets long (14)", then the reference's.
@@ -193,15 +195,18 @@ fn packed_meaning(meaning: &Meaning, payload: &[u8]) -> u64 {
 }
 
 fn packed_message(message: Result<cemi::Frame<'_>, u8>) -> u64 {
-    packed(message.map(|it| {
-        let code = match it.code {
-            Code::Request => 1,
-            Code::Confirmation => 2,
-            Code::Indication => 3,
-        };
-        // "error mark, in a confirmation only"
-        packed_meaning(&it.meaning, it.payload) | code << 56 | u64::from(it.error_mark) << 58
-    }))
+    packed(message.map(|it| packed_frame(&it)))
+}
+
+fn packed_frame(frame: &cemi::Frame<'_>) -> u64 {
+    let code = match frame.code {
+        Code::Request => 1,
+        Code::Confirmation => 2,
+        Code::Indication => 3,
+    };
+    // "error mark, in a confirmation only"
+    let mark = u64::from(frame.error_mark);
+    packed_meaning(&frame.meaning, frame.payload) | code << 56 | mark << 58
 }
 
 fn packed_size(written: Result<usize, u8>) -> u64 {

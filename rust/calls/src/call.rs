@@ -29,6 +29,13 @@ functions! {
     Step
     Trace
     Why
+    TunnellingRequestRead
+    TunnellingRequestWrite
+    TunnellingAckRead
+    TunnellingAckWrite
+    TunnellingReceive
+    TunnellingSend
+    TunnellingConfirm
 }
 
 pub const FUNCTIONS: usize = Function::ALL.len();

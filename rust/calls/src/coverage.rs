@@ -8,9 +8,11 @@ use crate::rounds::{table, Options};
 use inputs::USUAL_SEED;
 use std::collections::BTreeSet;
 
+mod tunnelling;
+
 /// As tools/check-boards asks for it.
 const SHORT: Options = Options {
-    count: 5000,
+    count: 11_000,
     seed: USUAL_SEED,
     is_small: false,
     wrong: None,
@@ -80,12 +82,12 @@ fn the_same_seed_gives_the_same_table() {
 
 #[test]
 fn every_function_has_its_share() {
-    for count in [100, 401, 499, 500, 777, 4000] {
+    for count in [150, 601, 749, 750, 1111, 8000] {
         let table = table(Options { count, ..SHORT });
         assert_eq!(table.count(), count);
         for (function, numbers) in table.numbers.iter().enumerate() {
             let calls: u64 = numbers.iter().sum();
-            assert!(calls * 20 >= count as u64, "{function}: {calls} of {count}");
+            assert!(calls * 50 >= count as u64, "{function}: {calls} of {count}");
         }
     }
 }
@@ -102,6 +104,13 @@ const NUMBERS: [&[usize]; FUNCTIONS] = [
     &[0, 1, 2, 3, 4, 5, 6, 7, 8, 9, 10, 11, 12, 13, 14, 15, 18],
     &[0, 13, 14, 15, 16, 17, 18],
     &[0, 14, 15, 16, 17, 18],
+    &[0, 1, 3, 4, 5, 7, 8, 9, 10, 11, 12, 19],
+    &[0, 13, 14],
+    &[0, 1, 5, 10, 11, 12, 19],
+    &[0, 13, 14],
+    &[0, 1, 3, 4, 5, 7, 8, 9, 10, 11, 12, 13, 14, 19, 20, 21],
+    &[0, 13, 14, 20],
+    &[0, 1, 5, 10, 11, 12, 14, 19, 20, 21],
 ];
 
 #[test]
@@ -223,15 +232,15 @@ fn every_cut_of_a_number_is_seen() {
         .iter()
         .map(|&function| ranges(function).len())
         .sum();
-    // 256 for a message code is 0 if cut, which is none either.
-    assert_eq!(cuts.len(), 2 * numbers - 2);
+    // 256 for a message code, or for a channel to send on, is 0 if cut, which is none either.
+    assert_eq!(cuts.len(), 2 * numbers - 5);
 }
 
 #[test]
 fn a_small_table_fits_64_kilobytes() {
     let octets = octets(SMALL);
     let most: usize = Reader::new(&octets).most.iter().sum();
-    assert!(most <= 28_500, "{most} octets lent");
+    assert!(most <= 28_790, "{most} octets lent");
 }
 
 #[test]

@@ -5,7 +5,7 @@ use inputs::frames::{change, damage_tp1, mend_total, some_damages, tp1};
 use inputs::Generator;
 use reference::Given;
 
-const CODES: [u8; 3] = [0x11, 0x2e, 0x29];
+pub const CODES: [u8; 3] = [0x11, 0x2e, 0x29];
 
 /// The numbers of a valid frame.
 pub fn some_given(generator: &mut Generator) -> Given {
@@ -112,7 +112,7 @@ pub fn damage_routing(generator: &mut Generator, octets: &mut Vec<u8>) {
 }
 
 /// Something wrong with a message that begins at a place; then perhaps a total length that fits.
-fn damage_cemi(generator: &mut Generator, octets: &mut Vec<u8>, start: usize) {
+pub fn damage_cemi(generator: &mut Generator, octets: &mut Vec<u8>, start: usize) {
     for _ in 0..some_damages(generator) {
         damage_cemi_once(generator, octets, start);
     }
@@ -146,7 +146,7 @@ fn damage_cemi_once(generator: &mut Generator, octets: &mut Vec<u8>, start: usiz
 }
 
 /// Something wrong with a KNXnet/IP header, or with the length that it tells.
-fn damage_header(generator: &mut Generator, octets: &mut Vec<u8>) {
+pub fn damage_header(generator: &mut Generator, octets: &mut Vec<u8>) {
     for _ in 0..some_damages(generator) {
         let place = generator.below(6);
         let damage = generator.damage();

@@ -4,10 +4,13 @@
 
 mod answer;
 mod call;
+mod channels;
 #[cfg(test)]
 mod coverage;
+mod datagrams;
 mod frames;
 mod numbers;
+mod orders;
 mod plans;
 #[cfg(test)]
 mod reader;

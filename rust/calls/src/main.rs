@@ -6,7 +6,7 @@ use std::io::Write;
 use std::process::ExitCode;
 
 const USAGE: &str = "usage: calls COUNT SEED [--small] [--wrong WHAT] > FILE
-  COUNT    how many calls, 100 at least
+  COUNT    how many calls, 150 at least
   SEED     a number, hexadecimal behind 0x
   --small  for a machine with 64 kB
   --wrong  with one thing wrong, to try a player: answer, room, count or function";
@@ -16,7 +16,7 @@ fn options(arguments: &[String]) -> Option<Options> {
         return None;
     };
     let mut options = Options {
-        count: number(count).ok().filter(|&count| count >= 100)? as usize,
+        count: number(count).ok().filter(|&count| count >= 150)? as usize,
         seed: number(seed).ok()?,
         is_small: false,
         wrong: None,

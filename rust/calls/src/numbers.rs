@@ -26,18 +26,27 @@ pub fn outside(generator: &mut Generator, right: u32, most: u32) -> u32 {
     generator.one_of(&all_outside(right, most))
 }
 
-/// The largest number in its range of each function, in the order of its numbers.
+/// The largest number in its range of each function, in the order of its numbers. Of a channel to send
+/// on, which has no range, the largest that may be open.
 pub fn ranges(function: Function) -> &'static [u32] {
     match function {
-        Function::CheckOctet | Function::Tp1Read | Function::CemiRead | Function::RoutingRead => {
-            &[]
-        }
         Function::Tp1Write => &MOST,
         Function::CemiWrite => &[0x2e, 1, 1, 1, 3, 65_535, 1, 65_535, 7],
         Function::RoutingWrite => &[0x29, 0, 1, 1, 3, 65_535, 1, 65_535, 7],
         Function::Step => &[1],
         Function::Trace => &[255, 1, 65_535, 7],
         Function::Why => &[255, 1, 65_535, 7, 255],
+        Function::TunnellingRequestWrite => &[255, 255, 0x2e, 1, 1, 1, 3, 65_535, 1, 65_535, 7],
+        Function::TunnellingAckWrite => &[255, 255, 255],
+        Function::TunnellingSend => &[4, 0x2e, 1, 1, 1, 3, 65_535, 1, 65_535, 7],
+        Function::CheckOctet
+        | Function::Tp1Read
+        | Function::CemiRead
+        | Function::RoutingRead
+        | Function::TunnellingRequestRead
+        | Function::TunnellingAckRead
+        | Function::TunnellingReceive
+        | Function::TunnellingConfirm => &[],
     }
 }
 

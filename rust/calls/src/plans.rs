@@ -65,7 +65,7 @@ impl<'a> Plan<'a> {
         let length = match generator.below(16) {
             0 => 0,
             1 => ROOM_SIZE - 1,
-            place => [ROOM_SIZE, 800][place % 2],
+            place => [ROOM_SIZE, 776][place % 2],
         };
         let mut arguments = self.arguments(query);
         arguments.push(Argument::Room(Lent::Filled {

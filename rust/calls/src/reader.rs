@@ -5,16 +5,24 @@ use crate::call::{Argument, Call, Function, Lent};
 use crate::table::{HEAD_SIZE, MARK, PLACES};
 use Function::{CemiRead, CemiWrite, CheckOctet, RoutingRead, RoutingWrite};
 use Function::{Step, Tp1Read, Tp1Write, Trace, Why};
+use Function::{TunnellingAckRead, TunnellingAckWrite, TunnellingConfirm};
+use Function::{TunnellingReceive, TunnellingRequestRead, TunnellingRequestWrite, TunnellingSend};
 
 /// The arguments in the order of tests/emulated/calls.h: n a number, o octets to read, r a room.
 pub fn kinds(function: Function) -> &'static str {
     match function {
         CheckOctet | Tp1Read | CemiRead | RoutingRead => "o",
+        TunnellingRequestRead | TunnellingAckRead => "o",
         Tp1Write => "nnnnnnnor",
         CemiWrite | RoutingWrite => "nnnnnnnnnor",
         Step => "oonror",
         Trace => "nnnnooor",
         Why => "nnnnooon",
+        TunnellingRequestWrite => "nnnnnnnnnnnor",
+        TunnellingAckWrite => "nnnr",
+        TunnellingReceive => "ror",
+        TunnellingSend => "onnnnnnnnnnor",
+        TunnellingConfirm => "ro",
     }
 }
 

@@ -2,12 +2,11 @@
 
 use crate::answer::Answer;
 use crate::call::{Argument, Call, Function, Lent, FUNCTIONS};
-use crate::frames;
 use crate::numbers::{all_outside, ranges};
 use crate::plans::Plan;
 use crate::table::{Table, Wrong};
 use crate::traffic::Series;
-use crate::writes;
+use crate::{channels, datagrams, frames, orders, writes};
 use inputs::plans::{Stores, MOST_COUPLERS, MOST_OWN, MOST_PROJECT};
 use inputs::Generator;
 
@@ -21,24 +20,53 @@ pub struct Options {
 }
 
 /// Long enough for a store and a filter table to be used many times before others are sent.
-const ROUND: usize = 400;
+const ROUND: usize = 600;
 /// The least calls for a share of every function.
-pub const LEAST: usize = 100;
+pub const LEAST: usize = 150;
 
-/// From so many calls on, a table begins with each number at each place outside its range.
-const LEAST_WITH_NUMBERS: usize = 2000;
+/// From so many calls on, a table begins with what is not left to chance: each number at each place
+/// outside its range, tunnelling with each two things wrong, the channels' counters past 255.
+const LEAST_WITH_ALL: usize = 8000;
 
-/// Of a hundred calls, by function.
-const SHARES: [usize; FUNCTIONS] = [6, 11, 10, 9, 9, 9, 9, 19, 9, 9];
+/// Of so many calls, by function.
+const SHARED: usize = 150;
+const SHARES: [usize; FUNCTIONS] = [6, 11, 10, 9, 9, 9, 9, 19, 9, 9, 8, 7, 5, 5, 11, 6, 8];
 
 /// The functions that take numbers.
-const WITH_NUMBERS: [Function; 6] = [
+const WITH_NUMBERS: [Function; 9] = [
     Function::Tp1Write,
     Function::CemiWrite,
     Function::RoutingWrite,
     Function::Step,
     Function::Trace,
     Function::Why,
+    Function::TunnellingRequestWrite,
+    Function::TunnellingAckWrite,
+    Function::TunnellingSend,
+];
+
+const READERS: [Function; 6] = [
+    Function::CheckOctet,
+    Function::Tp1Read,
+    Function::CemiRead,
+    Function::RoutingRead,
+    Function::TunnellingRequestRead,
+    Function::TunnellingAckRead,
+];
+
+const WRITERS: [Function; 5] = [
+    Function::Tp1Write,
+    Function::CemiWrite,
+    Function::RoutingWrite,
+    Function::TunnellingRequestWrite,
+    Function::TunnellingAckWrite,
+];
+
+/// The functions that are lent a table of channels.
+const ON_CHANNELS: [Function; 3] = [
+    Function::TunnellingReceive,
+    Function::TunnellingSend,
+    Function::TunnellingConfirm,
 ];
 
 const COUPLERS_OF_A_ROUND: usize = 3;
@@ -60,8 +88,10 @@ pub fn table(options: Options) -> Table {
         table: Table::default(),
         rounds: 0,
     };
-    if options.count >= LEAST_WITH_NUMBERS {
+    if options.count >= LEAST_WITH_ALL {
         writer.numbers_outside();
+        writer.orders();
+        writer.counters();
     }
     while writer.table.count() < options.count {
         let left = options.count - writer.table.count();
@@ -84,32 +114,22 @@ struct Writer {
 
 impl Writer {
     fn round(&mut self, calls: usize) {
-        let mut shares = SHARES.map(|share| share * calls / 100);
+        let mut shares = SHARES.map(|share| share * calls / SHARED);
         if self.options.wrong == Some(Wrong::Function) {
             shares[Function::Why as usize] = 0;
         }
         shares[Function::Tp1Read as usize] += calls - shares.iter().sum::<usize>();
         let share = |function| shares[function as usize];
-        for _ in 0..share(Function::CheckOctet) {
-            self.read(Function::CheckOctet);
+        for function in repeated(&READERS, share) {
+            self.read(function);
         }
-        for function in [Function::Tp1Read, Function::CemiRead, Function::RoutingRead] {
-            for _ in 0..share(function) {
-                self.read(function);
-            }
-        }
-        for function in [
-            Function::Tp1Write,
-            Function::CemiWrite,
-            Function::RoutingWrite,
-        ] {
-            for _ in 0..share(function) {
-                let call = writes::some_write(&mut self.generator, function);
-                self.table.add(&call);
-            }
+        for function in repeated(&WRITERS, share) {
+            let call = writes::some_write(&mut self.generator, function);
+            self.table.add(&call);
         }
         self.steps(share(Function::Step));
         self.sites(share(Function::Trace), share(Function::Why));
+        self.tunnels(repeated(&ON_CHANNELS, share));
         self.rounds += 1;
     }
 
@@ -125,6 +145,35 @@ impl Writer {
                     self.table.add(&call);
                 }
             }
+        }
+    }
+
+    /// Tunnelling with one thing wrong, and with each two of them.
+    fn orders(&mut self) {
+        for (call, _) in orders::calls() {
+            self.table.add(&call);
+        }
+    }
+
+    /// A fresh channel's counters all the way round, and one further; those of the others from 254 on.
+    fn counters(&mut self) {
+        let whole = channels::some_channel(&mut self.generator);
+        for channel in 1..=4 {
+            match channel == whole {
+                true => self.counters_of(channels::Series::on_channel(channel, 0), 257),
+                false => self.counters_of(channels::Series::on_channel(channel, 254), 4),
+            }
+        }
+    }
+
+    fn counters_of(&mut self, mut series: channels::Series, times: usize) {
+        let generator = &mut self.generator;
+        for _ in 0..times {
+            let received = self.table.add(&series.expected(generator));
+            series.keep(&received.rooms[0]);
+            self.table.add(&series.sent(generator));
+            let confirmed = self.table.add(&series.confirmed());
+            series.keep(&confirmed.rooms[0]);
         }
     }
 
@@ -144,10 +193,11 @@ impl Writer {
                         _ => plan.why(generator, &query),
                     }
                 }
+                Function::TunnellingSend => channels::Series::new(generator).send(generator),
                 _ => writes::some_write(generator, function),
             };
             let fits_both = match call.slices().as_slice() {
-                [payload] => payload.len() <= 16,
+                [payload] | [_, payload] => payload.len() <= 16,
                 _ => true,
             };
             if fits_both && Answer::of(&call).number as u8 == 0 {
@@ -164,6 +214,8 @@ impl Writer {
             (_, Function::Tp1Read) => frames::some_tp1(generator).into(),
             (_, Function::CemiRead) => frames::some_cemi(generator).into(),
             (_, Function::RoutingRead) => frames::some_routing(generator).into(),
+            (_, Function::TunnellingRequestRead) => datagrams::some_request(generator).into(),
+            (_, Function::TunnellingAckRead) => datagrams::some_acknowledgement(generator).into(),
             _ => {
                 let length = generator.below(300);
                 generator.octets(length).into()
@@ -210,6 +262,29 @@ impl Writer {
         }
     }
 
+    /// Calls on a table of channels in any order, now and then on another one.
+    fn tunnels(&mut self, mut functions: Vec<Function>) {
+        let generator = &mut self.generator;
+        generator.shuffle(&mut functions);
+        let mut series = channels::Series::new(generator);
+        for function in functions {
+            match generator.below(40) {
+                0 => series = channels::Series::new(generator),
+                1..4 => series.set(generator),
+                _ => {}
+            }
+            let call = match function {
+                Function::TunnellingReceive => series.receive(generator),
+                Function::TunnellingSend => series.send(generator),
+                _ => series.confirm(generator),
+            };
+            let answer = self.table.add(&call);
+            if function != Function::TunnellingSend {
+                series.keep(&answer.rooms[0]);
+            }
+        }
+    }
+
     /// How many tables the two stores of a round have.
     fn tables(&mut self) -> [usize; 2] {
         let most = extent(self.options).tables;
@@ -241,6 +316,12 @@ fn extent(options: Options) -> Extent {
             tables: 3,
         },
     }
+}
+
+/// Each function so many times.
+fn repeated(functions: &[Function], times: impl Fn(Function) -> usize) -> Vec<Function> {
+    let of_one = |&function| std::iter::repeat_n(function, times(function));
+    functions.iter().flat_map(of_one).collect()
 }
 
 /// A part's calls where all are shared out evenly.

@@ -4,8 +4,11 @@ use crate::answer::Answer;
 use crate::call::{Argument, Call, Lent, FUNCTIONS};
 
 pub const MARK: &[u8; 8] = b"KDCALLS1";
-pub const PLACES: usize = 16;
+pub const PLACES: usize = 13;
 pub const HEAD_SIZE: usize = MARK.len() + 4 + 4 * PLACES;
+
+/// 0 and the numbers of the refusals.
+const NUMBERS: usize = 22;
 
 /// How a slice is told.
 const NULL: u8 = 0;
@@ -35,7 +38,7 @@ pub struct Table {
     /// The most octets ever lent in each place.
     most: [usize; PLACES],
     /// How often each function gave each number.
-    pub numbers: [[u64; 19]; FUNCTIONS],
+    pub numbers: [[u64; NUMBERS]; FUNCTIONS],
     /// Where the last answer ends, and the last octets of a room that were told.
     end_of_answer: usize,
     end_of_room: usize,
@@ -48,7 +51,7 @@ impl Default for Table {
             octets: Vec::new(),
             held: [const { None }; PLACES],
             most: [0; PLACES],
-            numbers: [[0; 19]; FUNCTIONS],
+            numbers: [[0; NUMBERS]; FUNCTIONS],
             end_of_answer: 0,
             end_of_room: 0,
         }

@@ -5,11 +5,46 @@ use crate::call::{Argument, Call, Function, Lent};
 use crate::numbers::{self, outside, MOST};
 use inputs::Generator;
 
-const LARGEST_ROOM: usize = 300;
+/// Larger than what is written into it, which is 274 octets at most, and 10 of an acknowledgement.
+const LARGEST_ROOM: usize = 280;
+const ROOM_OF_16: usize = 16;
+const ACKNOWLEDGEMENT_SIZE: usize = 10;
 
 pub fn some_write(generator: &mut Generator, function: Function) -> Call {
+    let arguments = match function {
+        Function::TunnellingAckWrite => {
+            let numbers = [0; 3].map(|_| Argument::Number(some_octet(generator)));
+            let room = some_small_room(generator);
+            [&numbers[..], &[Argument::Room(room)]].concat()
+        }
+        Function::TunnellingRequestWrite => {
+            let numbers = vec![some_octet(generator), some_octet(generator)];
+            some_arguments(generator, function, numbers)
+        }
+        _ => some_arguments(generator, function, Vec::new()),
+    };
+    Call {
+        function,
+        arguments,
+    }
+}
+
+/// A channel, a counter or a status, seldom outside its range.
+fn some_octet(generator: &mut Generator) -> u32 {
+    let octet = generator.octet().into();
+    match generator.below(24) {
+        0 => outside(generator, octet, 255),
+        _ => octet,
+    }
+}
+
+/// The arguments of a frame that is written: the numbers before it, its own, payload and room.
+pub fn some_arguments(
+    generator: &mut Generator,
+    function: Function,
+    mut numbers: Vec<u32>,
+) -> Vec<Argument> {
     let extended = generator.below(2) == 1;
-    let mut numbers = Vec::new();
     if function != Function::Tp1Write {
         numbers.extend(some_kind(generator, function));
     }
@@ -25,11 +60,8 @@ pub fn some_write(generator: &mut Generator, function: Function) -> Call {
     let size = payload.octets().len() + head_size(function, extended);
     let mut arguments: Vec<Argument> = numbers.into_iter().map(Argument::Number).collect();
     arguments.push(Argument::Octets(payload));
-    arguments.push(Argument::Room(some_room(generator, size)));
-    Call {
-        function,
-        arguments,
-    }
+    arguments.push(Argument::Room(some_room(generator, size, LARGEST_ROOM)));
+    arguments
 }
 
 /// The octets of a frame that are not payload.
@@ -37,6 +69,7 @@ fn head_size(function: Function, extended: bool) -> usize {
     match function {
         Function::CemiWrite => 9,
         Function::RoutingWrite => 15,
+        Function::TunnellingRequestWrite | Function::TunnellingSend => 19,
         _ => 7 + usize::from(extended),
     }
 }
@@ -73,7 +106,12 @@ fn some_payload(generator: &mut Generator, extended: bool) -> Lent {
     generator.octets(length).into()
 }
 
-fn some_room(generator: &mut Generator, size: usize) -> Lent {
+/// For an acknowledgement.
+pub fn some_small_room(generator: &mut Generator) -> Lent {
+    some_room(generator, ACKNOWLEDGEMENT_SIZE, ROOM_OF_16)
+}
+
+fn some_room(generator: &mut Generator, size: usize, large: usize) -> Lent {
     let length = match generator.below(16) {
         0 => return Lent::Null,
         1 => 0,
@@ -81,7 +119,7 @@ fn some_room(generator: &mut Generator, size: usize) -> Lent {
         4 => generator.below(size),
         5..9 => size,
         9 => size + 1,
-        _ => LARGEST_ROOM,
+        _ => large,
     };
     Lent::Filled {
         length,
