@@ -1,9 +1,9 @@
 /*
  * The inputs over which the stack of each exported call is measured: the longest frames of both
- * formats, every direction of a step, refusals, and traces and explanations on a site of 255
- * couplers with filter tables, over the longest path. Who includes this file measures one call by
- * `lowest_of`, the lowest place of the stack that a function without parameters comes to, and tells
- * a figure by `tell_figure`.
+ * formats, every direction of a step, refusals, traces and explanations on a site of 255 couplers
+ * with filter tables, over the longest path, and requests and acknowledgements with every outcome.
+ * Who includes this file measures one call by `lowest_of`, the lowest place of the stack that a
+ * function without parameters comes to, and tells a figure by `tell_figure`.
  */
 #ifndef INPUTS_H
 #define INPUTS_H
@@ -21,8 +21,11 @@ static uint8_t memory[KLUMDRAY_MEMORY_SIZE];
 static const uint8_t table[KLUMDRAY_TABLE_SIZE] = {[0 ... KLUMDRAY_TABLE_SIZE - 1] = 0xFF};
 static uint8_t site[COUPLERS * KLUMDRAY_RECORD_SIZE];
 static uint8_t settings[KLUMDRAY_SETTINGS_SIZE] = {0x47, 1, 2, 1, 1, 1, 2, 1, 1, KLUMDRAY_TP1};
-static size_t tp1_length, cemi_length, datagram_length;
-static uint32_t side, kind, start, line;
+/* Channel 2 is open, with the receive counter that a request is to meet. */
+static uint8_t channels[KLUMDRAY_CHANNELS_SIZE] = {0, 0, 0, 1, 0, 0}, expected;
+static uint8_t request[300], acknowledgement[KLUMDRAY_ACK_SIZE];
+static size_t tp1_length, cemi_length, datagram_length, request_length;
+static uint32_t side, kind, start, line, channel = 2;
 static uint64_t answer;
 
 static void nothing(void)
@@ -87,6 +90,47 @@ static void why(void)
                           line);
 }
 
+static void request_read(void)
+{
+    answer = klumdray_tunnelling_request_read(request, request_length);
+}
+
+static void request_write(void)
+{
+    answer = klumdray_tunnelling_request_write(channel, 0, 0x11, 0, 1, 1, 3, 0x1101, 1, 0x1234, 6,
+                                               payload, 255, room, sizeof room);
+}
+
+static void ack_read(void)
+{
+    answer = klumdray_tunnelling_ack_read(acknowledgement, sizeof acknowledgement);
+}
+
+static void ack_write(void)
+{
+    answer = klumdray_tunnelling_ack_write(channel, 0, 0, room, sizeof room);
+}
+
+static void receive(void)
+{
+    channels[4] = expected;
+    answer = klumdray_tunnelling_receive(channels, sizeof channels, request, request_length, room,
+                                         sizeof room);
+}
+
+static void send(void)
+{
+    answer = klumdray_tunnelling_send(channels, sizeof channels, channel, 0x11, 0, 1, 1, 3, 0x1101,
+                                      1, 0x1234, 6, payload, 255, room, sizeof room);
+}
+
+static void confirm(void)
+{
+    channels[5] = 0;
+    answer = klumdray_tunnelling_confirm(channels, sizeof channels, acknowledgement,
+                                         sizeof acknowledgement);
+}
+
 static unsigned most;
 
 static void try_call(void (*call)(void))
@@ -126,6 +170,11 @@ static void prepare(void)
     routing_write();
     datagram_length = klumdray_written(answer);
     copy(datagram, room, datagram_length);
+    request_write();
+    request_length = klumdray_written(answer);
+    copy(request, room, request_length);
+    ack_write();
+    copy(acknowledgement, room, sizeof acknowledgement);
 }
 
 static void steps(void)
@@ -156,6 +205,24 @@ static void traces(void)
     tell("klumdray_why");
 }
 
+/* A request arrives with the counter expected, with the one behind, with neither; an
+ * acknowledgement with and without a status; each call then on a channel that is closed. */
+static void tunnels(void)
+{
+    for (expected = 0; expected < 3; expected++)
+        try_call(receive);
+    request[7] = 1;
+    try_call(receive), tell("klumdray_tunnelling_receive");
+    try_call(send);
+    channel = 1;
+    try_call(send), tell("klumdray_tunnelling_send");
+    try_call(confirm);
+    acknowledgement[9] = 0x21;
+    try_call(confirm);
+    acknowledgement[7] = 1;
+    try_call(confirm), tell("klumdray_tunnelling_confirm");
+}
+
 static void measure_all(void)
 {
     prepare();
@@ -168,6 +235,11 @@ static void measure_all(void)
     try_call(routing_write), tell("klumdray_routing_write");
     steps();
     traces();
+    try_call(request_read), tell("klumdray_tunnelling_request_read");
+    try_call(request_write), tell("klumdray_tunnelling_request_write");
+    try_call(ack_read), tell("klumdray_tunnelling_ack_read");
+    try_call(ack_write), tell("klumdray_tunnelling_ack_write");
+    tunnels();
 }
 
 #endif

@@ -11,6 +11,9 @@
 /* More than any call takes. */
 enum { DEPTH = 6000 };
 
+/* A register is put down whole, also one whose first octets are like the pattern. */
+enum { WORD = 4 };
+
 static inline __attribute__((always_inline)) uintptr_t stack_pointer(void)
 {
     uintptr_t pointer;
@@ -33,7 +36,7 @@ __attribute__((noinline)) static uintptr_t lowest_over(void (*call)(void), uint8
     octet = end - DEPTH;
     while (*octet == pattern)
         octet++;
-    return (uintptr_t)octet;
+    return (uintptr_t)octet / WORD * WORD;
 }
 
 /* With two patterns, since a call may leave an octet that is like one of them. */
