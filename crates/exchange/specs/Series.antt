@@ -56,8 +56,8 @@ datagramOf k (copy j) = requestOf k j
 datagramOf k (damaged s) = s
 
 -- Of the client and the network, where the requests before number t have been acknowledged so far. The client goes on only when it was
--- acknowledged: a copy that comes is of the request t or of one before it. No copy comes after 255 later requests. What is damaged is no
--- request.
+-- acknowledged: a copy that comes is of the request t or of one before it. No copy comes once 255 requests behind it were acknowledged. What
+-- is damaged is no request.
 abbrev pub Keeps : Client → ℕ → List Arrival → Type 0
 Keeps k t [] = Unit {0}
 Keeps k t (copy j ∷ rest) = ((j ≤ t) × (t < j + 256)) × Keeps k (cond (eqb j t) (suc t) t) rest
