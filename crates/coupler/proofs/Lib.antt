@@ -3,4 +3,5 @@ pub mod StepLaws
 mod HearingLaws
 pub mod Refusals
 pub mod Promised
+pub mod Repetition
 pub mod Answers

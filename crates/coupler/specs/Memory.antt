@@ -1,7 +1,7 @@
 -- Document 01: "Between frames each TP1 side remembers the last accepted frame that was received from it, at the start none."
-use Prim.Native.Nat.{ℕ}
-use mathlib.Core.List.{List}
-use mathlib.Core.Bool.{Bool, cond, not, _&&_, Bool·beq}
+use Prim.Native.Nat.{ℕ, _-_, _*_, _/_, _%_}
+use mathlib.Core.List.{List, [], _∷_}
+use mathlib.Core.Bool.{Bool, true, false, cond, not, _&&_}
 use lib.ListN.{length, take, replicate}
 use lib.Dec.{leb, eqb}
 use Rattle.octets.specs.Room.{laid}
@@ -40,12 +40,28 @@ rememberedOn m side frame =
     record { main = remembering (m .main) frame; sub = m .sub }
     record { main = m .main; sub = remembering (m .sub) frame }
 
--- "An accepted frame marked repeated is a repetition if the remembered frame has the same source, destination and AT.": the remembered
--- frame, and the octets received
+-- Document 01 as R-2 amends it: "An accepted frame marked repeated is a repetition if" the remembered frame has the same octets: "all octets
+-- must agree except the repeat bit and the check octet".
+
+-- a control octet without the repeat bit, which is bit 5
+unfoldable pub unmarked : ℕ → ℕ
+unmarked control = control - control / 32 % 2 * 32
+
+-- the octets that must agree: the control octet but for the repeat bit, and those behind it but for the check octet, which is the last
+abbrev pub compared : List ℕ → List ℕ
+compared [] = []
+compared (control ∷ behind) = unmarked control ∷ take (length behind - 1) behind
+
+abbrev pub same : List ℕ → List ℕ → Bool
+same [] [] = true
+same [] (o ∷ os) = false
+same (o ∷ os) [] = false
+same (o ∷ os) (p ∷ ps) = eqb o p && same os ps
+
+-- they agree, and there are as many of them
+unfoldable pub agree : List ℕ → List ℕ → Bool
+agree before s = eqb (length before) (length s) && same (compared before) (compared s)
+
+-- the remembered frame, and the octets received
 unfoldable pub isRepetition : List ℕ → List ℕ → Bool
-isRepetition before s =
-    not (meaningIn s .first)
-    && not (eqb (length before) 0)
-    && eqb (meaningIn before .source) (meaningIn s .source)
-    && eqb (meaningIn before .destination) (meaningIn s .destination)
-    && Bool·beq (meaningIn before .group) (meaningIn s .group)
+isRepetition before s = not (meaningIn s .first) && agree before s

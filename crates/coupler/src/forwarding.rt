@@ -7,7 +7,7 @@ ghost use Rattle.octets.specs.Room.{over};
 ghost use Rattle.frame.specs.Order.{firstOf};
 ghost use Rattle.frame.specs.Valid.{inRange};
 ghost use Rattle.routing.specs.Reading.{readRouting};
-ghost use Rattle.coupler.specs.Memory.{isRepetition};
+ghost use Rattle.coupler.specs.Memory.{unmarked, agree, isRepetition};
 ghost use Rattle.coupler.specs.Hearing.{meaningOnly, answerOn, payloadOn};
 ghost use Rattle.coupler.specs.Step.{couplerBy, settingTests, fromIp, readBy, kindOf, isAllowed, acknowledgementBy, forwardedMeaning, formOf, refusedOutcome};
 ghost use Rattle.coupler.specs.Stages.{putSize, Sent, PassedOn, HandedBy};
@@ -177,6 +177,30 @@ fn pass_on(
     }
 }
 
+fn unmarked(control: u8) -> u8
+    ensures { λ r. ⌜ r ≡ unmarked control ⌝ }
+{
+    control - control / 32 % 2 * 32
+}
+
+// "all octets must agree except the repeat bit and the check octet": compared where they lie, all of them, so that the compiler
+// takes many at once.
+fn agree(before: &[u8], octets: &[u8]) -> bool
+    ensures { λ r. ⌜ r ≡ agree (now (before .entry)) (now (octets .entry)) ⌝ }
+{
+    if before.len() != octets.len() {
+        return false;
+    }
+    let control = unmarked(octets::octet(octets, 0));
+    let mut same = unmarked(octets::octet(before, 0)) == control;
+    let mut at = 1;
+    while at + 1 < octets.len() {
+        same = same & (before[at] == octets[at]);
+        at += 1;
+    }
+    same
+}
+
 fn is_repetition(remembered: &[u8], octets: &[u8]) -> bool
     ensures { λ r. ⌜ r ≡ isRepetition (now (remembered .entry)) (now (octets .entry)) ⌝ }
 {
@@ -184,12 +208,7 @@ fn is_repetition(remembered: &[u8], octets: &[u8]) -> bool
     if meaning.first {
         return false;
     }
-    let before = tp1::meaning_in(remembered);
-    let none = remembered.len() == 0;
-    !none
-        & (before.source == meaning.source)
-        & (before.destination == meaning.destination)
-        & (before.group == meaning.group)
+    agree(remembered, octets)
 }
 
 // "IP has neither memory nor acknowledgement"

@@ -1,4 +1,4 @@
--- A first sending is none; otherwise the fields of both, as `meaning_in` hands them out.
+-- A first sending is none; otherwise what `agree` ensures.
 use borrow.Author.Needs.{needs}
 use Rattle.coupler.specs.Memory.{isRepetition}
 use Rattle.coupler.proofs.forwarding.is_repetition.Statement.{statement}
@@ -10,10 +10,7 @@ returns c = rw (← c .before .meaning-in .ensures, c .if1 .taken)
 
 returns-2 : tie.Need-returns-2
 unfolding isRepetition
-returns-2 c =
-    let then = c .before .before .before .before .before .before in
-    let meaning-in2 = then .meaning-in2 in
-    rw (← then .before .before .meaning-in .ensures, then .before .if1 .left, ← meaning-in2 .ensures)
+returns-2 c = rw (← c .before .before .meaning-in .ensures, c .before .if1 .left) (c .agree .ensures)
 
 pub is-repetition-spec : {M : Type 1} → statement M
 is-repetition-spec = tie.close (tie.spec (λ c κs. search needs) returns (λ c κs. search needs) returns-2)
