@@ -202,38 +202,39 @@ frames-agree x y p q v w = (
       agree-iff (tp1Octets x p) (tp1Octets y q) .1 (number, compared-frame x p ∙ heads ∙ sym (compared-frame y q))),
 )
 
--- a repetition is marked repeated and agrees with the remembered octets
+-- a frame is a repetition if it is marked repeated and agrees with the remembered octets ..
 
-pub repetition-iff : (before s : List ℕ) → isRepetition before s ≡ true ↔ ((meaningIn s .first ≡ false) × Agrees before s)
+marked-agrees : (before : List ℕ) (m : Meaning) (p : List ℕ) → Valid m p → isRepetition before (tp1Octets m p) ≡ true ↔ ((m .first ≡ false) × (agree before (tp1Octets m p) ≡ true))
 unfolding isRepetition
-repetition-iff before s = (
-  (λ e. let q = and-true (not (meaningIn s .first)) (agree before s) e in (not-true (meaningIn s .first) (q .0), places-iff before s .0 (q .1))),
-  (λ (e, g). rw e (places-iff before s .1 g)),
-)
-
--- of frames: it is the remembered one as it is sent again
-pub frame-repeats : (x y : Meaning) (p q : List ℕ) → Valid x p → Valid y q → isRepetition (tp1Octets x p) (tp1Octets y q) ≡ true ↔ ((y ≡ repeated x) × (q ≡ p))
-unfolding isRepetition
-frame-repeats x y p q v w = (
-  (λ e.
-      let both = and-true (not (meaningIn s .first)) (agree (tp1Octets x p) s) e in
-      let marked : y .first ≡ false = sym means ∙ not-true (meaningIn s .first) (both .0) in
-      let one = frames-agree x y p q v w .0 (both .1) in
-      (again y marked ∙ sym (one .0), sym (one .1))),
-  (λ (e, f).
-      let marked : meaningIn s .first ≡ false = means ∙ ap (λ (m : Meaning). m .first) e in
-      rw marked (frames-agree x y p q v w .1 (sym (ap repeated e), sym f))),
+marked-agrees before m p v = (
+  (λ e. let both = and-true (not (meaningIn s .first)) (agree before s) e in (sym means ∙ not-true (meaningIn s .first) (both .0), both .1)),
+  (λ (e, f). rw (means ∙ e) f),
 )
   where
     s : List ℕ
-    s = tp1Octets y q
+    s = tp1Octets m p
 
-    means : meaningIn s .first ≡ y .first
-    means = ap (λ (m : Meaning). m .first) (accepted-iff s y .0 (laid-read y q w) .1)
+    means : meaningIn s .first ≡ m .first
+    means = ap (λ (y : Meaning). y .first) (accepted-iff s m .0 (laid-read m p v) .1)
 
-    -- what is marked repeated is as it is sent again
-    again : (m : Meaning) → m .first ≡ false → m ≡ repeated m
-    again m e = λ i. record {
+pub repetition-iff : (before : List ℕ) (m : Meaning) (p : List ℕ) → Valid m p → isRepetition before (tp1Octets m p) ≡ true ↔ ((m .first ≡ false) × Agrees before (tp1Octets m p))
+repetition-iff before m p v = (
+  (λ e. let both = marked-agrees before m p v .0 e in (both .0, places-iff before (tp1Octets m p) .0 (both .1))),
+  (λ (e, g). marked-agrees before m p v .1 (e, places-iff before (tp1Octets m p) .1 g)),
+)
+
+-- .. and of a remembered frame, if it is that frame as it is sent again
+pub frame-repeats : (x y : Meaning) (p q : List ℕ) → Valid x p → Valid y q → isRepetition (tp1Octets x p) (tp1Octets y q) ≡ true ↔ ((y ≡ repeated x) × (q ≡ p))
+frame-repeats x y p q v w = (
+  (λ e.
+      let both = marked-agrees (tp1Octets x p) y q w .0 e in
+      let one = frames-agree x y p q v w .0 (both .1) in
+      (marked y (both .0) ∙ sym (one .0), sym (one .1))),
+  (λ (e, f). marked-agrees (tp1Octets x p) y q w .1 (ap (λ (m : Meaning). m .first) e, frames-agree x y p q v w .1 (sym (ap repeated e), sym f))),
+)
+  where
+    marked : (m : Meaning) → m .first ≡ false → m ≡ repeated m
+    marked m e = λ i. record {
       extended = m .extended;
       first = e i;
       priority = m .priority;

@@ -41,7 +41,7 @@ use Rattle.tracer.specs.Listing.{StandsIn, listed, linesListed}
 use Rattle.tracer.specs.declared.Query.{Query}
 use Rattle.tracer.specs.Tracing.{traceTests, tracedBy, listBy, DidTrace}
 use Rattle.tracer.specs.declared.Traced.{Traced}
-use Rattle.promises.specs.Telegrams.{Case, _hears_and_, Does, sends, Holds, Every, P1, P2, P7, P8, P10, P12a, cases, fromIpOpen, broadcastOpen, closedRow, fourCouplers}
+use Rattle.promises.specs.Telegrams.{Case, _hears_and_, Does, sends, refuses, Holds, Every, P1, P2, P7, P8, P10, P12a, cases, fromIpOpen, broadcastOpen, closedRow, fourCouplers}
 use Rattle.promises.proofs.Demand3.{lists-exactly}
 use Rattle.promises.proofs.Telegrams.{every}
 
@@ -94,6 +94,7 @@ module _ (read : List ℕ → Tp1Answer) (meets : (s : List ℕ) → read s ≡ 
 
 abbrev sentIn : Does → List ℕ
 sentIn (sends acknowledgement octets) = octets
+sentIn (refuses number) = []
 
 recalls-none : recalled (sideOf noMemory 0) ≡ []
 unfolding recalled kept

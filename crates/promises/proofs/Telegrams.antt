@@ -1,6 +1,7 @@
 -- Every case of the list holds, by computation from the definitions.
 use mathlib.Core.Path.{refl}
 use Rattle.octets.specs.Check.{checkOctet}
+use Rattle.octets.specs.Room.{laid}
 use Rattle.frame.specs.Fields.{isControl, controlOf, ctrleOf, fieldsMeaning}
 use Rattle.tp1.specs.Layout.{head, sealed, tp1Octets}
 use Rattle.tp1.specs.Reading.{isExtended, headSize, isOtherFormat, isEscape, frameSize, isChecked, meaningIn, readTp1}
@@ -9,7 +10,7 @@ use Rattle.knxnetip.specs.Header.{isOtherHeader, isOtherService, isOtherLength}
 use Rattle.routing.specs.Reading.{readRouting}
 use Rattle.passing.specs.Settings.{classOf, isCode, isRow, areCodes, asksTable, tableFits}
 use Rattle.passing.specs.Passing.{isOwn, isInTable, isBelow, isOnward, isRuled, mayPass}
-use Rattle.coupler.specs.Memory.{isRepetition}
+use Rattle.coupler.specs.Memory.{kept, recalled, zeros, remembering, rememberedOn, unmarked, agree, isRepetition}
 use Rattle.coupler.specs.Step.{heard, acknowledgementBy, formOf}
 use Rattle.site.specs.Records.{recordSize, firstRecord, recordsOf, isMarked, codesOf, couplerOf}
 use Rattle.site.specs.Stores.{isStored, tableAt, tableOf, isStore, areStores}
@@ -21,5 +22,5 @@ use Rattle.tracer.specs.Listing.{lasts, isListed, entry, listed, linesListed, i
 use Rattle.promises.specs.Telegrams.{Every, cases}
 
 pub every : Every cases
-unfolding checkOctet isControl controlOf ctrleOf fieldsMeaning head sealed tp1Octets isExtended headSize isOtherFormat isEscape frameSize isChecked meaningIn readTp1 body isOtherBody isEscapeBody isLongStandard bodySize messageIn isOtherHeader isOtherService isOtherLength readRouting classOf isCode isRow areCodes asksTable tableFits isOwn isInTable isBelow isOnward isRuled mayPass isRepetition heard acknowledgementBy formOf recordSize firstRecord recordsOf isMarked codesOf couplerOf isStored tableAt tableOf isStore areStores hasTable siteTests recordPasses lineLetsPass mainSide depth mainSides path distance lasts isListed onArrival entry listed linesListed isForwarding forwardings
-every = ((refl, refl), ((refl, refl), ((refl, refl), ((refl, refl), ((refl, refl), ((refl, refl), ((refl, refl), ((refl, refl), ((refl, refl), ((refl, refl), ((refl, refl), ((refl, refl), ((refl, refl), ((refl, refl), ((refl, refl), ((refl, refl), ((refl, refl), tt)))))))))))))))))
+unfolding checkOctet laid isControl controlOf ctrleOf fieldsMeaning head sealed tp1Octets isExtended headSize isOtherFormat isEscape frameSize isChecked meaningIn readTp1 body isOtherBody isEscapeBody isLongStandard bodySize messageIn isOtherHeader isOtherService isOtherLength readRouting classOf isCode isRow areCodes asksTable tableFits isOwn isInTable isBelow isOnward isRuled mayPass kept recalled zeros remembering rememberedOn unmarked agree isRepetition heard acknowledgementBy formOf recordSize firstRecord recordsOf isMarked codesOf couplerOf isStored tableAt tableOf isStore areStores hasTable siteTests recordPasses lineLetsPass mainSide depth mainSides path distance lasts isListed onArrival entry listed linesListed isForwarding forwardings
+every = ((refl, refl), ((refl, refl), ((refl, refl), ((refl, refl), ((refl, refl), ((refl, refl), ((refl, refl), ((refl, refl), ((refl, refl), ((refl, refl), ((refl, refl), ((refl, refl), ((refl, refl), ((refl, refl), ((refl, refl), ((refl, refl), ((refl, refl), (refl, (refl, (refl, (refl, tt)))))))))))))))))))))

@@ -1,11 +1,14 @@
--- Document 01, "Telegrams to check against": the cases marked P, as one list.
+-- Document 01, "Telegrams to check against": the cases marked P; and those that document 02 adds, R-2's. As one list.
 use Prim.Native.Nat.{ℕ, _/_}
-use mathlib.Core.Bool.{true, false}
-use mathlib.Core.List.{List, [], _∷_, _++_}
+use mathlib.Core.Bool.{true, false, cond}
+use mathlib.Core.List.{List, [], _∷_, _++_, map}
 use mathlib.Core.Path.{_≡_}
-use lib.ListN.{length}
+use lib.Dec.{eqb}
+use lib.ListN.{length, take, replicate}
 use Rattle.passing.specs.Passing.{tableOctet, tableBit}
 use Rattle.coupler.specs.Setting.{settingOf}
+use Rattle.coupler.specs.Memory.{noMemory}
+use Rattle.coupler.specs.Series.{Input, Done, series}
 use Rattle.coupler.specs.Step.{Coupler, couplerBy, outcomeOf, sent, acknowledgementNumber}
 use Rattle.frame.specs.Order.{firstOf}
 use Rattle.frame.specs.declared.Verdict.{Verdict}
@@ -22,19 +25,24 @@ use Rattle.tracer.specs.Tracing.{traceTests, tracedBy, listBy}
 abbrev pub refusedBy : ℕ → Numbered
 refusedBy n = record { number = n; values = [] }
 
--- what a coupler that remembers nothing does with octets: its acknowledgement as the paper's number (CCh, 0 for none), and the octets that it sends
+-- what a coupler does with octets: its acknowledgement as the paper's number (CCh, 0 for none) and the octets that it sends, or the number of its
+-- refusal
 pub data Does : Type 0 where
   sends : ℕ → List ℕ → Does
+  refuses : ℕ → Does
 
 infix 20 tp1_is_with_
 infix 20 _hears_and_
+infix 20 _hears-in-turn_and_
 infix 20 bit_is_of_
 infix 20 _on_lists_by_
 pub data Case : Type 0 where
   -- these octets, read as a TP1 frame: number and values, and the payload handed out
   tp1_is_with_ : List ℕ → Numbered → List ℕ → Case
-  -- this coupler, given these octets
+  -- this coupler, remembering nothing, given these octets
   _hears_and_ : Coupler → List ℕ → Does → Case
+  -- this coupler, at the start remembering nothing, given these octets one after the other
+  _hears-in-turn_and_ : Coupler → List (List ℕ) → List Does → Case
   -- this group's bit, and the octet of the filter table
   bit_is_of_ : ℕ → ℕ → ℕ → Case
   -- this query on this site: the list, and the forwardings made
@@ -47,6 +55,16 @@ does k s = sends (acknowledgementNumber (outcomeOf k [] s 272 .acknowledgement))
 abbrev pub Handles : Coupler → List ℕ → Does → Type 0
 Handles k s d = (outcomeOf k [] s 272 .number ≡ 0) × (does k s ≡ d)
 
+-- each of a series of frames in a room of 272, and what becomes of each
+abbrev pub given : Coupler → List (List ℕ) → List Input
+given k = map (λ s. record { coupler = k; octets = s; room = replicate 272 0 })
+
+abbrev pub doing : Done → Does
+doing d =
+    cond (eqb (d .outcome .number) 0)
+    (sends (acknowledgementNumber (d .outcome .acknowledgement)) (take (d .outcome .forwarded) (d .room)))
+    (refuses (d .outcome .number))
+
 -- the verdict on a query with empty stores and a room of 768, and what is listed
 abbrev pub asked : Query → List ℕ → Verdict
 asked q site = firstOf (traceTests (stores [] []) site q 768)
@@ -54,6 +72,7 @@ asked q site = firstOf (traceTests (stores [] []) site q 768)
 abbrev pub Holds : Case → Type 0
 Holds (tp1 s is a with p) = (tp1Numbered (readTp1 s) ≡ a) × (payloadIn (readTp1 s) s ≡ p)
 Holds (k hears s and d) = Handles k s d
+Holds (k hears-in-turn ss and ds) = map doing (series noMemory (given k ss)) ≡ ds
 Holds (bit g is b of o) = (tableBit g ≡ b) × (tableOctet g ≡ o)
 Holds (q on site lists l by n) =
     (tracedBy (stores [] []) site q (asked q site) ≡ record { number = 0; lines = length l / 3; forwardings = n }) × (listBy (stores [] []) site q (asked q site) ≡ l)
@@ -161,5 +180,45 @@ P13a = queryOf 0x20 0 0x4700 6 on fourCouplers 1 lists 0x00 ∷ 0x05 ∷ 0x01 �
 abbrev pub P13b : Case
 P13b = queryOf 0x47 0 0x4901 6 on fourCouplers 1 lists 0x40 ∷ 0x05 ∷ 0x01 ∷ 0x47 ∷ 0x06 ∷ 0x00 ∷ [] by 1
 
+-- Document 02, R-2: the meter 4.7.21 writes increments to group 1234h, and coupler 47h hears them on its line
+abbrev pub meterCoupler : Coupler
+meterCoupler = couplerBy (settingOf 0x47 1 0) (groupsOpen ∷ groupsOpen ∷ []) []
+
+abbrev pub telegramOne : List ℕ
+telegramOne = 0xBC ∷ 0x47 ∷ 0x15 ∷ 0x12 ∷ 0x34 ∷ 0xE3 ∷ 0x00 ∷ 0x80 ∷ 0x0C ∷ 0x1A ∷ 0x42 ∷ []
+
+abbrev pub oneForwarded : List ℕ
+oneForwarded = 0xBC ∷ 0x47 ∷ 0x15 ∷ 0x12 ∷ 0x34 ∷ 0xD3 ∷ 0x00 ∷ 0x80 ∷ 0x0C ∷ 0x1A ∷ 0x72 ∷ []
+
+abbrev pub oneRepeated : List ℕ
+oneRepeated = 0x9C ∷ 0x47 ∷ 0x15 ∷ 0x12 ∷ 0x34 ∷ 0xE3 ∷ 0x00 ∷ 0x80 ∷ 0x0C ∷ 0x1A ∷ 0x62 ∷ []
+
+-- one payload bit different
+abbrev pub twoRepeated : List ℕ
+twoRepeated = 0x9C ∷ 0x47 ∷ 0x15 ∷ 0x12 ∷ 0x34 ∷ 0xE3 ∷ 0x00 ∷ 0x80 ∷ 0x0C ∷ 0x1B ∷ 0x63 ∷ []
+
+abbrev pub twoForwarded : List ℕ
+twoForwarded = 0xBC ∷ 0x47 ∷ 0x15 ∷ 0x12 ∷ 0x34 ∷ 0xD3 ∷ 0x00 ∷ 0x80 ∷ 0x0C ∷ 0x1B ∷ 0x73 ∷ []
+
+-- a repeat of the telegram before is not forwarded, and a repeat of that repeat neither
+abbrev pub R2a : Case
+R2a = meterCoupler hears-in-turn telegramOne ∷ oneRepeated ∷ oneRepeated ∷ [] and sends 0xCC oneForwarded ∷ sends 0xCC [] ∷ sends 0xCC [] ∷ []
+
+-- "cases with equal addresses and one payload bit different"
+abbrev pub R2b : Case
+R2b = meterCoupler hears-in-turn telegramOne ∷ twoRepeated ∷ [] and sends 0xCC oneForwarded ∷ sends 0xCC twoForwarded ∷ []
+
+-- "and with equal payload but another count": 5 in place of 6
+abbrev pub R2c : Case
+R2c =
+    meterCoupler hears-in-turn telegramOne ∷ (0x9C ∷ 0x47 ∷ 0x15 ∷ 0x12 ∷ 0x34 ∷ 0xD3 ∷ 0x00 ∷ 0x80 ∷ 0x0C ∷ 0x1A ∷ 0x52 ∷ []) ∷ []
+    and sends 0xCC oneForwarded ∷ sends 0xCC (0xBC ∷ 0x47 ∷ 0x15 ∷ 0x12 ∷ 0x34 ∷ 0xC3 ∷ 0x00 ∷ 0x80 ∷ 0x0C ∷ 0x1A ∷ 0x62 ∷ []) ∷ []
+
+-- "Our meter's second telegram was damaged on its first sending, its repeat came marked repeated": it is forwarded, and once
+abbrev pub R2d : Case
+R2d =
+    meterCoupler hears-in-turn telegramOne ∷ (0xBC ∷ 0x47 ∷ 0x15 ∷ 0x12 ∷ 0x34 ∷ 0xE3 ∷ 0x00 ∷ 0x80 ∷ 0x4C ∷ 0x1B ∷ 0x43 ∷ []) ∷ twoRepeated ∷ twoRepeated ∷ []
+    and sends 0xCC oneForwarded ∷ refuses 6 ∷ sends 0xCC twoForwarded ∷ sends 0xCC [] ∷ []
+
 abbrev pub cases : List Case
-cases = P1 ∷ P2 ∷ P3 ∷ P4 ∷ P5 ∷ P6 ∷ P7 ∷ P8 ∷ P9 ∷ P10 ∷ P11a ∷ P11b ∷ P12a ∷ P12b ∷ P12c ∷ P13a ∷ P13b ∷ []
+cases = P1 ∷ P2 ∷ P3 ∷ P4 ∷ P5 ∷ P6 ∷ P7 ∷ P8 ∷ P9 ∷ P10 ∷ P11a ∷ P11b ∷ P12a ∷ P12b ∷ P12c ∷ P13a ∷ P13b ∷ R2a ∷ R2b ∷ R2c ∷ R2d ∷ []
