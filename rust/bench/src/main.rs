@@ -35,7 +35,13 @@ fn print_introduction() {
         "parts goes through the bindings. From one medium to another is a coupler step with a"
     );
     println!(
-        "filter table; its size is the frame's on TP1. Trace and why are of a site with all 255"
+        "filter table; its size is the frame's on TP1. A repetition is marked repeated and agrees"
+    );
+    println!(
+        "with the frame remembered; a differing frame is marked repeated too, but differs from the"
+    );
+    println!(
+        "one remembered in a payload bit and is forwarded. Trace and why are of a site with all 255"
     );
     println!(
         "couplers and 32 filter tables; the reference floods it from line to line. Receive, send"
