@@ -1,7 +1,8 @@
 /*
  * The C surface as a C program meets it: empty slices, document 01's P1 to P6, P7's datagram, steps
- * of a coupler with P7 to P10, sites with P12 and P13, tunnelling on four channels, numbers with
- * more bits than their ranges have, and slices that overlap or adjoin.
+ * of a coupler with P7 to P10, repetitions and frames that differ from one in a bit, sites with P12
+ * and P13, tunnelling on four channels, numbers with more bits than their ranges have, and slices
+ * that overlap or adjoin.
  *
  * It also runs on boards: no assumption about the width of a pointer, and of the C library only
  * memcpy, memset, memcmp, strcmp and printf with %s and %u.
@@ -367,14 +368,148 @@ static void steps_from_tp1(void)
     check("and remembered", klumdray_remembered_size(c.memory, KLUMDRAY_SUB) == sizeof repeated);
 }
 
+/* A leak meter's telegrams from line 4.7 to group 2/2/52: one, and two, which differs in a bit. */
+enum { METER = 11 };
+
+static const uint8_t ONE[METER] = {0xBC, 0x47, 0x15, 0x12, 0x34, 0xE3,
+                                   0x00, 0x80, 0x0C, 0x1A, 0x42};
+static const uint8_t ONE_REPEATED[METER] = {0x9C, 0x47, 0x15, 0x12, 0x34, 0xE3,
+                                            0x00, 0x80, 0x0C, 0x1A, 0x62};
+static const uint8_t TWO_REPEATED[METER] = {0x9C, 0x47, 0x15, 0x12, 0x34, 0xE3,
+                                            0x00, 0x80, 0x0C, 0x1B, 0x63};
+static const uint8_t TWO_ONWARD[METER] = {0xBC, 0x47, 0x15, 0x12, 0x34, 0xD3,
+                                          0x00, 0x80, 0x0C, 0x1B, 0x73};
+
+/* Coupler 4.7, open, after telegram one; the room is as if nothing had been forwarded. */
+static struct coupler after_one(void)
+{
+    struct coupler c = coupler(0x47, 2, KLUMDRAY_TP1);
+    uint64_t answer = step(&c, KLUMDRAY_SUB, ONE, sizeof ONE);
+    check("telegram one is forwarded", klumdray_forwarded(answer) == sizeof ONE);
+    memset(c.room, 0x55, sizeof c.room);
+    return c;
+}
+
+/* "A repetition isn't forwarded", but acknowledged. */
+static int is_repetition(const struct coupler *c, uint64_t answer)
+{
+    return answer == 0xCC00 && untouched(c->room, sizeof c->room);
+}
+
+/* "all octets must agree except the repeat bit and the check octet" */
+static void near_repetitions(void)
+{
+    static const uint8_t count_5[METER] = {0x9C, 0x47, 0x15, 0x12, 0x34, 0xD3,
+                                           0x00, 0x80, 0x0C, 0x1A, 0x52};
+    static const uint8_t count_4[METER] = {0xBC, 0x47, 0x15, 0x12, 0x34, 0xC3,
+                                           0x00, 0x80, 0x0C, 0x1A, 0x62};
+    struct coupler c = after_one();
+    uint64_t answer = step(&c, KLUMDRAY_SUB, TWO_REPEATED, METER);
+    check("one payload bit different is forwarded", is_forwarded(&c, answer, TWO_ONWARD, METER));
+    check("and acknowledged", klumdray_acknowledgement(answer) == 0xCC);
+    c = after_one();
+    answer = step(&c, KLUMDRAY_SUB, count_5, METER);
+    check("equal payload but another count is forwarded", is_forwarded(&c, answer, count_4, METER));
+    check("and acknowledged too", klumdray_acknowledgement(answer) == 0xCC);
+    c = after_one();
+    answer = step(&c, KLUMDRAY_SUB, ONE, sizeof ONE);
+    check("marked first sending the same is forwarded", klumdray_forwarded(answer) == METER);
+}
+
+static void repeats_of_repeats(void)
+{
+    struct coupler c = after_one();
+    uint64_t answer = step(&c, KLUMDRAY_SUB, ONE_REPEATED, METER);
+    check("a repeat is stopped", is_repetition(&c, answer));
+    answer = step(&c, KLUMDRAY_SUB, ONE_REPEATED, METER);
+    check("a repeat of a repeat is stopped", is_repetition(&c, answer));
+    answer = step(&c, KLUMDRAY_SUB, TWO_REPEATED, METER);
+    check("after it another frame is not", is_forwarded(&c, answer, TWO_ONWARD, METER));
+    answer = step(&c, KLUMDRAY_SUB, ONE_REPEATED, METER);
+    check("nor is the frame before that one", klumdray_forwarded(answer) == METER);
+}
+
+/* Telegram two is damaged on its first sending: its repeat is no repetition of telegram one. */
+static void repeats_of_damaged_frames(void)
+{
+    static const uint8_t damaged[METER] = {0xBC, 0x47, 0x15, 0x12, 0x34, 0xE3,
+                                           0x00, 0x80, 0x0C, 0x1B, 0x42};
+    struct coupler c = after_one(), before = c;
+    uint64_t answer = step(&c, KLUMDRAY_SUB, damaged, sizeof damaged);
+    check("telegram two with a wrong check octet is 6", is_refused(answer, 6));
+    check("it leaves the room", untouched(c.room, sizeof c.room));
+    check("telegram one stays remembered", memcmp(c.memory, before.memory, sizeof c.memory) == 0);
+    answer = step(&c, KLUMDRAY_SUB, TWO_REPEATED, METER);
+    check("the repeat of telegram two is acknowledged", klumdray_acknowledgement(answer) == 0xCC);
+    check("it is forwarded", is_forwarded(&c, answer, TWO_ONWARD, METER));
+    memset(c.room, 0x55, sizeof c.room);
+    answer = step(&c, KLUMDRAY_SUB, TWO_REPEATED, METER);
+    check("its next repeat is stopped", is_repetition(&c, answer));
+}
+
+/* Every bit but the repeat flag, format, LG, the control octet's fixed ones and the check octet. */
+static void one_bit_other(void)
+{
+    static const uint8_t bits[METER - 1] = {0x0C, 0xFF, 0xFF, 0xFF, 0xFF,
+                                            0xF0, 0xFF, 0xFF, 0xFF, 0xFF};
+    const struct coupler before = after_one();
+    unsigned i, tried = 0, forwarded = 0;
+    for (i = 0; i < 8 * sizeof bits; i++) {
+        struct coupler c = before;
+        uint8_t frame[METER], bit = (uint8_t)(1u << i % 8);
+        if ((bits[i / 8] & bit) == 0)
+            continue;
+        memcpy(frame, ONE_REPEATED, METER);
+        frame[i / 8] ^= bit;
+        frame[METER - 1] ^= bit;
+        tried++;
+        forwarded += klumdray_forwarded(step(&c, KLUMDRAY_SUB, frame, METER)) == METER;
+    }
+    check("a repeat with any other bit is forwarded", tried == 70 && forwarded == tried);
+}
+
+/* The longest frame is compared to its last octet of payload. */
+static void longest_repetitions(void)
+{
+    enum { N = KLUMDRAY_FRAME_SIZE };
+    uint8_t frame[N] = {0x3C, 0xE0, 0x47, 0x15, 0x12, 0x34, 0xFE};
+    struct coupler c = coupler(0x47, 2, KLUMDRAY_TP1);
+    frame[N - 1] = (uint8_t)klumdray_check_octet(frame, N - 1);
+    check("the longest frame is forwarded",
+          klumdray_forwarded(step(&c, KLUMDRAY_SUB, frame, N)) == N);
+    memset(c.room, 0x55, sizeof c.room);
+    frame[0] ^= 0x20;
+    frame[N - 1] ^= 0x20;
+    check("its repeat is stopped", is_repetition(&c, step(&c, KLUMDRAY_SUB, frame, N)));
+    frame[N - 2] ^= 0x80;
+    frame[N - 1] ^= 0x80;
+    check("with one bit other in the last octet of payload it is forwarded",
+          klumdray_forwarded(step(&c, KLUMDRAY_SUB, frame, N)) == N);
+}
+
+static void repetitions(void)
+{
+    near_repetitions();
+    repeats_of_repeats();
+    repeats_of_damaged_frames();
+    one_bit_other();
+    longest_repetitions();
+}
+
 /* Octets that the header has a word for although no step leaves them so. */
 static void steps_with_odd_memories(void)
 {
     static const uint8_t repeated[] = {0x90, 0xAF, 0xFE, 0x00, 0x00, 0x60, 0x00, 0x5E};
     struct coupler c = coupler(0x11, 2, KLUMDRAY_TP1);
-    memcpy(c.memory + 2, repeated, 3);
-    c.memory[1] = 3;
-    check("of a size of 3 the missing octets are 0",
+    unsigned size, forwarded = 0;
+    for (size = 1; size <= 7; size++) {
+        memcpy(c.memory + 2, repeated, sizeof repeated);
+        c.memory[1] = (uint8_t)size;
+        forwarded += klumdray_forwarded(step(&c, KLUMDRAY_MAIN, repeated, 8)) == 8;
+    }
+    check("of a size from 1 to 7 no frame is a repetition", forwarded == 7);
+    c.memory[9] ^= 0xFF;
+    check("of octets with a wrong check octet a frame is one",
           step(&c, KLUMDRAY_MAIN, repeated, sizeof repeated) == 0xCC00);
     c.memory[0] = 1;
     check("a size of 264 is none", klumdray_remembered_size(c.memory, KLUMDRAY_MAIN) == 0);
@@ -1756,6 +1891,7 @@ int main(void)
     helpers();
     steps_from_ip();
     steps_from_tp1();
+    repetitions();
     steps_with_odd_memories();
     steps_for_itself_and_to_ip();
     steps_with_a_table();
