@@ -2,11 +2,12 @@
  * Klumdray: the surface of the proved library libklumdray.a, numbers and octets only.
  *
  * Document 01 ("Frame layouts", "Refusal numbers", "The coupler", "Sites and the tracer") and
- * document 02 (R-1, tunnelling) say what each call does; each call is proved to do it for every
- * input. So is what this file says of the numbers' ranges (crates/promises/proofs/Given.antt), of
- * the answers' bits, of the parts of the caller's octets, of the list in a trace's room, of the
- * frame in a step's memory and of the channels in their table, as the helpers at its end read them
- * (Surface.antt and SurfaceTunnelling.antt there), and of the test for an overlap (Overlap.antt).
+ * document 02 (R-1, tunnelling; R-2, repetitions) say what each call does; each call is proved to
+ * do it for every input. So is what this file says of the numbers' ranges
+ * (crates/promises/proofs/Given.antt), of the answers' bits, of the parts of the caller's octets,
+ * of the list in a trace's room, of the frame in a step's memory and of the channels in their
+ * table, as the helpers at its end read them (Surface.antt and SurfaceTunnelling.antt there), and
+ * of the test for an overlap (Overlap.antt).
  *
  * Octets. A slice is a pointer and then a length of 64 bits, on every machine; a null pointer with
  * length 0 is an empty slice. Otherwise the pointer must have that many octets behind it. All
@@ -114,10 +115,10 @@
  *   octets 265 to 266  size of the frame remembered of the sub side, high octet first; 0: none
  *   octets 267 to 529  that frame, from octet 267 on
  *
- * A size above 263 counts as none. No step leaves one, nor a size from 1 to 7, which counts as a
- * frame whose missing octets are 0. After a TP1 frame that is not refused, the receiving side's
- * size is the frame's and its octets are the frame; those behind the frame and the other side's
- * stay. After a frame from IP, and after a refusal, the whole block is as it was.
+ * A size above 263 counts as none. No step leaves one, nor a size from 1 to 7, nor octets that are
+ * no frame; a step compares these as they stand. After a TP1 frame that is not refused, the
+ * receiving side's size is the frame's and its octets are the frame; those behind the frame and the
+ * other side's stay. After a frame from IP, and after a refusal, the whole block is as it was.
  *
  * A site is a record of 12 octets for each coupler fitted, 0 to 255 of them, in any order.
  *
@@ -302,9 +303,9 @@ enum {
  * Count 0 is never forwarded; counts 1 to 6 go on lowered by one, 7 stays. A forwarded frame keeps
  * format, priority, addresses and payload and says first sending; on IP it is a plain indication in
  * a routing datagram. A TP1 frame marked repeated is a repetition if the frame remembered of its
- * side has the same source, destination and AT: it is not forwarded. A TP1 frame gets CCh exactly
- * if it is for the coupler itself or, repetition or not, its address, codes and count allow
- * forwarding. IP has neither memory nor acknowledgement.
+ * side is as long and all octets agree except the repeat bit and the check octet: it is not
+ * forwarded. A TP1 frame gets CCh exactly if it is for the coupler itself or, repetition or not,
+ * its address, codes and count allow forwarding. IP has neither memory nor acknowledgement.
  * Refusals, the first that applies: settings not 10 or memory not 530 octets long (14), line or a
  * code (15), the table's length (18), side or medium (14), room (13), then as klumdray_tp1_read or,
  * from IP, klumdray_routing_read. A refused step leaves room and memory as they were.
