@@ -246,6 +246,11 @@ impl<'a> Outcome<'a> {
 /// assert_eq!(outcome.acknowledgement, Some(Acknowledgement::Acknowledged));
 /// assert!(outcome.forwarded.is_empty());
 ///
+/// // Marked repeated, but one bit differs from the frame remembered.
+/// let other = [0x90, 0xaf, 0xfe, 0x00, 0x00, 0xe1, 0x01, 0x01, 0xdf];
+/// let outcome = step(&settings, Side::Main, &mut memory, &other, &mut room);
+/// assert_eq!(outcome.forwarded, [0xb0, 0xaf, 0xfe, 0x00, 0x00, 0xd1, 0x01, 0x01, 0xcf]);
+///
 /// let outcome = step(&settings, Side::Sub, &mut memory, &[0xcc], &mut room);
 /// assert_eq!(outcome.refusal, Some(Refusal::ANOTHER_KIND));
 /// assert_eq!(outcome.acknowledgement, None);
