@@ -3,8 +3,8 @@
 use std::fs;
 use std::path::Path;
 
-/// The source documents, a file of rows for each.
-pub const SOURCES: [&str; 4] = ["000", "001", "002", "003"];
+/// The source documents, and document 02, whose requests ask for cases: a file of rows for each.
+pub const SOURCES: [&str; 5] = ["000", "001", "002", "003", "02"];
 
 const TABLE_SIZE: usize = 8192;
 
