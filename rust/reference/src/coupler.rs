@@ -10,6 +10,9 @@ pub const ROOM_SIZE: usize = 272;
 /// The largest TP1 frame is an extended one with LG 254: 9 + 254 octets.
 pub const LARGEST_FRAME: usize = 263;
 
+/// "Bit 5: 1 first sending, 0 repeated."
+const REPEAT_BIT: u8 = 0b0010_0000;
+
 /// The places in a row of codes: "individual 0, 1, 2; broadcast 0, 2; groups 0001h to 6FFFh 0, 1,
 /// 2; groups 7000h to FFFFh 0, 1, 2".
 const INDIVIDUAL: usize = 0;
@@ -214,17 +217,28 @@ impl Remembered {
         }
     }
 
-    /// "An accepted frame marked repeated is a repetition if the remembered frame has the same
-    /// source, destination and AT."
-    fn is_repeated_by(&self, meaning: &Meaning) -> bool {
-        let addresses = (meaning.source, meaning.destination, meaning.group);
-        !meaning.first_sending && self.frame().and_then(tp1::addresses) == Some(addresses)
+    /// "An accepted frame marked repeated is a repetition if" it agrees with the remembered one:
+    /// "all octets must agree except the repeat bit and the check octet" (R-2). The octets
+    /// remembered are compared as they stand, a frame or not.
+    fn is_repeated_by(&self, meaning: &Meaning, octets: &[u8]) -> bool {
+        !meaning.first_sending && self.frame().is_some_and(|frame| agree(frame, octets))
     }
 
     /// "Afterwards the accepted frame is the remembered one."
     fn remember(&mut self, frame: &[u8]) {
         self.octets[..frame.len()].copy_from_slice(frame);
         self.size = frame.len();
+    }
+}
+
+/// Whether all octets agree, their number included, "except the repeat bit", which is bit 5 of the
+/// first, "and the check octet", which is the last.
+fn agree(one: &[u8], other: &[u8]) -> bool {
+    match (one, other) {
+        ([control, body @ .., _], [other_control, other_body @ .., _]) => {
+            (control ^ other_control) & !REPEAT_BIT == 0 && body == other_body
+        }
+        _ => false,
     }
 }
 
@@ -328,7 +342,7 @@ fn accepted(
     let own = coupler.is_own(meaning.group, meaning.destination);
     let allowed = onward(coupler, side, &meaning);
     let mut remembered = memory.part(side, received_by);
-    let is_repetition = matches!(&remembered, Some(part) if part.is_repeated_by(&meaning));
+    let is_repetition = matches!(&remembered, Some(part) if part.is_repeated_by(&meaning, octets));
     let forwarded = match &allowed {
         Some(onward) if !is_repetition => sent_by.write(onward, payload, room)?,
         _ => 0,

@@ -1,5 +1,6 @@
 //! An independent reading of document 01, "Frame layouts", "Refusal numbers", "The coupler" and
-//! "Sites and the tracer", and of document 02, "R-1. Laptop on the line".
+//! "Sites and the tracer", and of document 02, "R-1. Laptop on the line" and "R-2. An increment eaten
+//! as a repetition".
 //!
 //! It is written from those papers alone and shares nothing with the proved code: the proved
 //! library is compared with it, input by input. A refusal is its number in the papers.

@@ -64,20 +64,6 @@ fn checked_payload(octets: &[u8], start: usize, lg: u8) -> Result<&[u8], u8> {
     Ok(&before[start..])
 }
 
-/// Source, destination and AT of an accepted frame.
-pub(crate) fn addresses(frame: &[u8]) -> Option<(u16, u16, bool)> {
-    let (ctrle_or_last, source, destination) = match *frame {
-        [control, s1, s0, d1, d0, last, ..] if control & 0x80 != 0 => (last, [s1, s0], [d1, d0]),
-        [_, ctrle, s1, s0, d1, d0, ..] => (ctrle, [s1, s0], [d1, d0]),
-        _ => return None,
-    };
-    Some((
-        u16::from_be_bytes(source),
-        u16::from_be_bytes(destination),
-        ctrle_or_last & 0x80 != 0,
-    ))
-}
-
 /// Writes the frame to the front of the room and returns its size; 14, then 13.
 pub fn write(given: &Given, payload: &[u8], room: &mut [u8]) -> Result<usize, u8> {
     write_meaning(&given.meaning(payload)?, payload, room)

@@ -4,6 +4,8 @@ use super::*;
 use crate::site::main_side;
 use crate::Format;
 
+mod repetitions;
+
 /// Receiving sides and main media, as the numbers that a caller gives.
 const MAIN: u8 = 0;
 const SUB: u8 = 1;
@@ -824,75 +826,17 @@ fn repeated_frame_may_be_the_first() {
     assert_eq!(coupler.take(MAIN, &frame(&repeated(sent))), held());
 }
 
-#[test]
-fn another_source_destination_or_at_is_no_repetition() {
-    let first = to_group(0x1234, 6);
-    let others = [
-        Meaning {
-            source: first.source ^ 0x0100,
-            ..first
-        },
-        Meaning {
-            source: first.source ^ 0x0001,
-            ..first
-        },
-        to_group(0x1235, 6),
-        to_group(0x9234, 6),
-        to_device(0x1234, 6),
-        Meaning {
-            source: first.destination,
-            ..to_group(first.source, 6)
-        },
-    ];
-    for format in [Format::Standard, Format::Extended] {
-        for other in others {
-            let other = Meaning { format, ..other };
-            let onward = forwarded(&frame(&counted(other, 5)));
-            let mut coupler = open(0x47, TP1);
-            coupler.accept(MAIN, &frame(&first));
-            assert_eq!(coupler.take(MAIN, &frame(&repeated(other))), onward);
-            assert_eq!(coupler.take(MAIN, &frame(&repeated(other))), held());
-        }
-    }
-}
-
-/// Only source, destination and AT are compared.
-#[test]
-fn repetition_of_another_format_priority_count_or_payload() {
-    let first = to_group(0x1234, 6);
-    let extended = Meaning {
-        format: Format::Extended,
-        ..first
-    };
-    let urgent = Meaning {
-        priority: 0b10,
-        ..first
-    };
-    let octets = frame_with(&repeated(first), &[0x00, 0x80, 0x0c]);
-    for (before, again) in [
-        (first, frame(&repeated(extended))),
-        (extended, frame(&repeated(first))),
-        (extended, frame(&repeated(extended))),
-        (first, frame(&repeated(urgent))),
-        (first, frame(&repeated(counted(first, 7)))),
-        (first, frame(&repeated(counted(first, 1)))),
-        (first, octets),
-    ] {
-        let mut coupler = open(0x47, TP1);
-        coupler.accept(SUB, &frame(&before));
-        assert_eq!(coupler.take(SUB, &again), held());
-    }
-}
-
 /// "Afterwards the accepted frame is the remembered one", whatever became of it.
 #[test]
 fn every_accepted_frame_is_remembered() {
     let sent = to_group(0x1234, 6);
     let mut coupler = open(0x47, TP1);
     let count_0 = frame(&counted(sent, 0));
+    coupler.accept(MAIN, &frame(&sent));
     assert_eq!(coupler.take(MAIN, &count_0), ignored());
     assert_eq!(coupler.memory.main.frame(), Some(&count_0[..]));
-    assert_eq!(coupler.take(MAIN, &frame(&repeated(sent))), held());
+    let onward = forwarded(&frame(&counted(sent, 5)));
+    assert_eq!(coupler.take(MAIN, &frame(&repeated(sent))), onward);
 
     let mut coupler = fitted(0x47, [[1, 0, 0, 0]; 2], TP1);
     let elsewhere = to_device(0x4801, 6);
@@ -928,7 +872,8 @@ fn repetition_is_the_remembered_one() {
     let first = frame(&sent);
     coupler.accept(SUB, &first);
     assert_eq!(coupler.memory.sub.frame(), Some(&first[..]));
-    let again = frame(&repeated(counted(sent, 2)));
+    let again = frame(&repeated(sent));
+    assert_ne!(again, first);
     assert_eq!(coupler.take(SUB, &again), held());
     assert_eq!(coupler.memory.sub.frame(), Some(&again[..]));
     assert_eq!(coupler.memory.main.frame(), None);
@@ -938,9 +883,10 @@ fn repetition_is_the_remembered_one() {
 fn repetition_that_address_codes_or_count_stop_is_not_acknowledged() {
     let sent = to_group(0x1234, 6);
     let mut coupler = open(0x47, TP1);
+    let count_0 = counted(sent, 0);
+    coupler.accept(MAIN, &frame(&count_0));
+    assert_eq!(coupler.take(MAIN, &frame(&repeated(count_0))), ignored());
     coupler.accept(MAIN, &frame(&sent));
-    let count_0 = frame(&repeated(counted(sent, 0)));
-    assert_eq!(coupler.take(MAIN, &count_0), ignored());
     coupler.coupler.codes[0] = [2, 2, 0, 2];
     assert_eq!(coupler.take(MAIN, &frame(&repeated(sent))), ignored());
     coupler.coupler.codes[0] = [2, 2, 2, 0];
@@ -955,6 +901,7 @@ fn own_repetition_is_for_itself_again() {
         assert_eq!(coupler.take(side, &frame(&sent)), for_itself());
         for count in 0..=7 {
             let again = frame(&repeated(counted(sent, count)));
+            assert_eq!(coupler.take(side, &again), for_itself());
             assert_eq!(coupler.take(side, &again), for_itself());
         }
     }
