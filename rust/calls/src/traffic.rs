@@ -1,12 +1,12 @@
-//! Series of steps: settings kept for a series, frames from a few addresses, so that repetitions come
-//! about, and now and then something wrong in any of them.
+//! Series of steps: settings kept for a series, frames from a few addresses, many of them sent again or
+//! with little changed, and now and then something wrong in any of them.
 
 use crate::answer::{MEMORY_SIZE, SETTINGS_SIZE};
 use crate::call::{Argument, Call, Function, Lent};
 use crate::frames;
 use crate::numbers::outside;
 use inputs::frames::{damage_tp1, tp1};
-use inputs::traffic::{send_again, some_address, some_line, Address};
+use inputs::traffic::{send_again, some_address, some_line, Address, Next};
 use inputs::{tables, Generator};
 use reference::coupler::{ROOM_SIZE, TABLE_SIZE};
 use reference::Given;
@@ -107,11 +107,12 @@ impl Series {
 
     pub fn step(&mut self, generator: &mut Generator) -> Call {
         // What is sent again mostly comes from the same side: else it would hardly be a repetition.
-        let again = self.next_frame(generator);
-        if generator.one_in(if again { 8 } else { 3 }) {
+        let next = self.next_frame(generator);
+        let cases = if let Next::New = next { 3 } else { 8 };
+        if generator.one_in(cases) {
             self.side ^= 1;
         }
-        let octets = self.some_octets(generator, self.side);
+        let octets = self.some_octets(generator, next);
         let mut lent = Spoiled {
             settings: self.settings.to_vec(),
             side: self.side,
@@ -138,14 +139,17 @@ impl Series {
     }
 
     /// A frame or a datagram as the side has it, seldom the other; in one case of three damaged.
-    fn some_octets(&self, generator: &mut Generator, side: u32) -> Lent {
+    fn some_octets(&self, generator: &mut Generator, next: Next) -> Lent {
         let (given, payload) = &self.previous;
         let damaged = generator.one_in(3);
-        if (side == 0 && self.settings[MEDIUM] == 1) != generator.one_in(64) {
+        if (self.side == 0 && self.settings[MEDIUM] == 1) != generator.one_in(64) {
             let mut octets = frames::routing(generator, given, payload);
             if damaged {
                 frames::damage_routing(generator, &mut octets);
             }
+            return octets.into();
+        }
+        if let Next::Broken(octets) = next {
             return octets.into();
         }
         let mut octets = tp1(given, payload);
@@ -157,13 +161,13 @@ impl Series {
         octets.into()
     }
 
-    /// A new frame, or the one before with nothing, or little, changed: whether it is sent again.
-    fn next_frame(&mut self, generator: &mut Generator) -> bool {
+    /// A new frame, or the one before with nothing, or little, changed.
+    fn next_frame(&mut self, generator: &mut Generator) -> Next {
         let source = generator.one_of(&self.sources);
         let (group, destination) = generator.one_of(&self.addresses);
         let (given, payload) = &mut self.previous;
-        let again = send_again(generator, given, payload);
-        if !again {
+        let next = send_again(generator, given, payload);
+        if let Next::New = next {
             *given = Given {
                 source,
                 group,
@@ -172,7 +176,7 @@ impl Series {
             };
             *payload = frames::some_payload(generator, given);
         }
-        again
+        next
     }
 }
 

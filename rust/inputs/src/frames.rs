@@ -1,7 +1,20 @@
 //! Frames, and what is wrong with them.
 
 use crate::Generator;
-use reference::Given;
+use reference::{Format, Given, Meaning};
+
+/// The numbers that a writer is given for a meaning.
+pub fn given(meaning: &Meaning) -> Given {
+    Given {
+        extended: (meaning.format == Format::Extended).into(),
+        first_sending: meaning.first_sending.into(),
+        priority: meaning.priority,
+        source: meaning.source,
+        group: meaning.group.into(),
+        destination: meaning.destination,
+        count: meaning.count,
+    }
+}
 
 /// A valid frame.
 pub fn tp1(given: &Given, payload: &[u8]) -> Vec<u8> {

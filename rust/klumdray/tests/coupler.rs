@@ -1,12 +1,18 @@
 //! The comparison for the coupler step: the proved library and the bindings over it beside the
 //! reference, in series that carry the memory on.
 
+#[path = "support/bit_by_bit.rs"]
+mod bit_by_bit;
 #[path = "support/couplers.rs"]
 mod couplers;
+#[path = "support/repetitions.rs"]
+mod repetitions;
 #[path = "support/traffic.rs"]
 mod traffic;
 #[path = "support/wrong_couplers.rs"]
 mod wrong_couplers;
+#[path = "support/wrong_repetitions.rs"]
+mod wrong_repetitions;
 
 use couplers::{library_step, packed, put_frame, reference_step, settings, Comparison, Lent};
 use couplers::{Stepper, LARGEST_ROOM, MEMORY};
@@ -23,19 +29,19 @@ const LONGEST_SERIES: usize = 100;
 #[derive(Clone, Copy)]
 struct Extent {
     steps: u64,
-    /// Whether memories with sizes above 263 are lent.
-    spoils_sizes: bool,
+    /// Whether memories are lent that no step leaves.
+    spoils_memory: bool,
 }
 
 const LIBRARY: Extent = Extent {
     steps: 2_000_000,
-    spoils_sizes: true,
+    spoils_memory: true,
 };
 
 /// The bindings have no such memory.
 const BINDINGS: Extent = Extent {
     steps: 1_000_000,
-    spoils_sizes: false,
+    spoils_memory: false,
 };
 
 /// Series of steps: of one coupler, in every second one with other settings, or of a new one with
@@ -57,15 +63,34 @@ fn compare<'s>(
             series.set(generator);
         }
         for _ in 0..=generator.below(LONGEST_SERIES) {
-            if extent.spoils_sizes && generator.one_in(100) {
-                let more = [0, generator.below(65_536 - 264)][generator.below(2)];
-                comparison.spoil_size(generator.below(2), 264 + more as u16);
+            if extent.spoils_memory && generator.one_in(50) {
+                spoil(&mut comparison, generator);
             }
             let step = series.step(generator);
             comparison.step(series.setting(&step), step.memory, &step.octets, step.room)?;
         }
     }
     Ok(comparison)
+}
+
+/// Lets a side remember what no step leaves: a size above 263, which "counts as no frame remembered",
+/// or of less than a frame, or one more or less than the frame's, or any; another check octet; another
+/// bit.
+fn spoil(comparison: &mut Comparison<'_>, generator: &mut Generator) {
+    let side = generator.below(2);
+    let mut remembered = comparison.remembered(side);
+    let size = remembered.size;
+    match generator.below(8) {
+        0 => remembered.size = 264,
+        1 => remembered.size = 264 + generator.below(65_536 - 264),
+        2 => remembered.size = generator.below(8),
+        3 => remembered.size = generator.below(264),
+        4 => remembered.size = (size + 1).min(263),
+        5 => remembered.size = size.saturating_sub(1),
+        6 => remembered.octets[size.clamp(1, 263) - 1] ^= generator.damage(),
+        _ => remembered.octets[generator.below(size.clamp(1, 263))] ^= 1 << generator.below(8),
+    }
+    comparison.spoil(side, &remembered);
 }
 
 fn assert_agrees(name: &str, proved: &mut Stepper, extent: Extent) {
@@ -88,6 +113,19 @@ fn library_agrees_with_the_reference() {
 #[test]
 fn bindings_agree_with_the_reference() {
     assert_agrees("bindings", &mut *bindings(), BINDINGS);
+}
+
+#[test]
+fn library_and_bindings_agree_bit_by_bit() {
+    for (name, proved) in [
+        ("library", &mut library_step as &mut Stepper),
+        ("bindings", &mut *bindings()),
+    ] {
+        match bit_by_bit::compare(proved, &mut reference_step) {
+            Ok(comparison) => println!("coupler bit by bit, {name}: {comparison}"),
+            Err(difference) => panic!("{name}: {difference}"),
+        }
+    }
 }
 
 /// The bindings with a memory of their own.
@@ -268,6 +306,31 @@ fn wrong_acknowledging_is_noticed() {
 #[test]
 fn wrong_remembering_is_noticed() {
     assert_noticed(wrong_couplers::remembering());
+}
+
+#[test]
+fn wrong_comparing_is_noticed() {
+    assert_noticed(wrong_repetitions::comparing());
+    assert_noticed(wrong_repetitions::elsewhere());
+}
+
+#[test]
+fn wrong_comparing_is_noticed_bit_by_bit() {
+    for (name, mut reference) in wrong_repetitions::comparing() {
+        match bit_by_bit::compare(&mut library_step, &mut *reference) {
+            Ok(_) => panic!("not noticed: {name}"),
+            Err(difference) => println!("{name}: {difference:.160}"),
+        }
+    }
+}
+
+/// The wrong ones differ from the reference by their rules alone.
+#[test]
+fn right_comparing_is_not_noticed() {
+    let (mut library, mut right) = (library_step, wrong_repetitions::right());
+    if let Err(difference) = compare(&mut library, &mut *right, seed(), LIBRARY) {
+        panic!("{difference}");
+    }
 }
 
 #[test]

@@ -1,9 +1,11 @@
 //! Steps for the comparison: two implementations are asked the same, each with a memory of its own
 //! that is carried on, and the first answer, memory or room in which they differ is reported.
 
+use crate::repetitions::Repetitions;
+use inputs::frames::given;
 use klumdray::raw;
-use reference::coupler::{Acknowledgement, Coupler, Memory, Outcome, Remembered, LARGEST_FRAME};
-use reference::{Format, Given, Meaning};
+use reference::coupler::{Acknowledgement, Coupler, Memory, Outcome, Remembered};
+use reference::Meaning;
 use std::fmt;
 use std::ops::Range;
 
@@ -174,18 +176,6 @@ pub fn is_repetition(answer: u64) -> bool {
     is_acknowledged(answer) && !is_own(answer) && forwarded(answer) == 0
 }
 
-pub fn given(meaning: &Meaning) -> Given {
-    Given {
-        extended: (meaning.format == Format::Extended).into(),
-        first_sending: meaning.first_sending.into(),
-        priority: meaning.priority,
-        source: meaning.source,
-        group: meaning.group.into(),
-        destination: meaning.destination,
-        count: meaning.count,
-    }
-}
-
 const KINDS: [&str; 9] = [
     "TP1 to TP1 down",
     "TP1 to TP1 up",
@@ -231,11 +221,16 @@ struct Counts {
     /// By place and value of the code asked, stopped and forwarded, the coupler's own and count 0
     /// apart.
     codes: [[[u64; 2]; 3]; 8],
+    repetitions: Repetitions,
 }
 
 impl Counts {
-    fn add(&mut self, setting: &Setting<'_>, octets: &[u8], answer: u64) {
+    fn add(&mut self, setting: &Setting<'_>, memory: &[u8], octets: &[u8], answer: u64) {
         self.numbers[usize::from(answer as u8)] += 1;
+        if setting.side < 2 && !is_from_ip(setting) {
+            let remembered = part(memory, setting.side.into());
+            self.repetitions.add(&remembered, octets, answer);
+        }
         if answer as u8 != 0 {
             return;
         }
@@ -282,6 +277,7 @@ impl<'s> Comparison<'s> {
                 numbers: [0; 256],
                 lengths: [[0; 256]; 2],
                 codes: [[[0; 2]; 3]; 8],
+                repetitions: Repetitions::default(),
             },
         }
     }
@@ -293,25 +289,30 @@ impl<'s> Comparison<'s> {
         }
     }
 
-    /// A size that is no frame's: "counts as no frame remembered".
-    pub fn spoil_size(&mut self, side: usize, size: u16) {
-        assert!(usize::from(size) > LARGEST_FRAME);
+    /// What a side remembers, in both memories.
+    pub fn remembered(&self, side: usize) -> Remembered {
+        part(&self.memories[0], side)
+    }
+
+    /// A memory as no step leaves it: of another size, or with other octets.
+    pub fn spoil(&mut self, side: usize, remembered: &Remembered) {
         for memory in &mut self.memories {
-            memory[side * PART..][..2].copy_from_slice(&size.to_be_bytes());
+            put_part(memory, side, remembered);
         }
     }
 
-    /// Compares the answers, the whole memories and rooms, and octets behind both.
+    /// Compares the answers, the whole memories and rooms, and octets behind both; gives the answer.
     pub fn step(
         &mut self,
         setting: Setting<'_>,
         lent_memory: usize,
         octets: &[u8],
         lent_room: usize,
-    ) -> Result<(), String> {
+    ) -> Result<u64, String> {
         let mut room = [self.steps() as u8; LARGEST_ROOM + NOT_LENT];
         let mut expected_room = room;
         let [memory, expected_memory] = &mut self.memories;
+        let before = *expected_memory;
         let answer = (self.proved)(&mut Lent {
             setting,
             memory: &mut memory[..lent_memory],
@@ -331,8 +332,8 @@ impl<'s> Comparison<'s> {
         } else if let Some(place) = difference(memory, expected_memory) {
             format!("memory differs at {place}")
         } else {
-            self.counts.add(&setting, octets, expected);
-            return Ok(());
+            self.counts.add(&setting, &before, octets, expected);
+            return Ok(expected);
         };
         let asked = asked(&setting, lent_memory, octets, lent_room);
         Err(format!("{difference}; {asked}"))
@@ -353,6 +354,7 @@ impl<'s> Comparison<'s> {
             assert!(times >= steps / 2000, "{number} only {times} times");
         }
         self.counts.assert_codes(steps / 1000);
+        self.counts.repetitions.assert_covers(steps);
         let [standard, extended] = &self.counts.lengths;
         let least = standard[1..=16].iter().chain(&extended[1..]).min();
         assert!(least >= Some(&(steps / 20_000)), "a length {least:?} times");
@@ -390,6 +392,7 @@ impl fmt::Display for Comparison<'_> {
         let numbers = self.counts.numbers.iter().enumerate();
         numbers
             .filter(|(_, &times)| times > 0)
-            .try_for_each(|(number, times)| write!(f, " {number}: {times}"))
+            .try_for_each(|(number, times)| write!(f, " {number}: {times}"))?;
+        write!(f, "; {}", self.counts.repetitions)
     }
 }

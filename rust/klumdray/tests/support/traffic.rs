@@ -1,9 +1,9 @@
-//! Series of steps from a seed: settings kept for a series, frames from a few addresses, so that
-//! repetitions come about, and now and then something wrong in any of them.
+//! Series of steps from a seed: settings kept for a series, frames from a few addresses, many of them
+//! sent again or with little changed, and now and then something wrong in any of them.
 
 use crate::couplers::{is_from_ip, settings, Setting, CODES, LINE, MEDIUM, MEMORY, SETTINGS};
 use inputs::frames::{damage_tp1, mend_total, tp1};
-use inputs::traffic::{send_again, some_address, some_line, Address};
+use inputs::traffic::{fit_both_formats, send_again, some_address, some_line, Address, Next};
 use inputs::{tables, Generator};
 use reference::coupler::TABLE_SIZE;
 use reference::Given;
@@ -24,8 +24,9 @@ pub struct Series {
     table: Vec<u8>,
     sources: [u16; 2],
     addresses: [Address; 4],
-    /// The numbers and payload of the frame before.
+    /// The numbers and payload of the frame before, and its side.
     previous: (Given, Vec<u8>),
+    side: u8,
 }
 
 impl Series {
@@ -40,6 +41,7 @@ impl Series {
             sources,
             addresses,
             previous: (some_numbers(generator, sources[0], addresses[0]), vec![0]),
+            side: 0,
         };
         series.set(generator);
         series
@@ -91,20 +93,20 @@ impl Series {
     }
 
     pub fn step(&mut self, generator: &mut Generator) -> Step {
+        let next = self.next_frame(generator);
         let mut step = Step {
             settings: self.settings.to_vec(),
-            side: generator.below(2) as u8,
+            side: self.side,
             memory: MEMORY,
             room: generator.one_of(&[272, 300]),
             octets: Vec::new(),
         };
-        self.next_frame(generator);
         let (numbers, payload) = &self.previous;
         let mistaken = generator.one_in(64);
-        step.octets = if is_from_ip(&self.setting(&step)) != mistaken {
-            some_datagram(generator, numbers, payload)
-        } else {
-            some_frame(generator, numbers, payload)
+        step.octets = match (is_from_ip(&self.setting(&step)) != mistaken, next) {
+            (true, _) => some_datagram(generator, numbers, payload),
+            (false, Next::Broken(octets)) => octets,
+            (false, _) => some_frame(generator, numbers, payload),
         };
         if generator.one_in(8) {
             spoil_lent(generator, &mut step);
@@ -112,15 +114,24 @@ impl Series {
         step
     }
 
-    /// A new frame, or the one before with nothing, or little, changed.
-    fn next_frame(&mut self, generator: &mut Generator) {
+    /// A new frame from either side, or the one before with nothing, or little, changed, mostly from
+    /// the same side: else it would hardly be a repetition.
+    fn next_frame(&mut self, generator: &mut Generator) -> Next {
         let source = generator.one_of(&self.sources);
         let address = generator.one_of(&self.addresses);
         let (numbers, payload) = &mut self.previous;
-        if !send_again(generator, numbers, payload) {
+        let next = send_again(generator, numbers, payload);
+        if let Next::New = next {
             *numbers = some_numbers(generator, source, address);
             *payload = some_payload(generator, numbers);
+            if generator.one_in(4) {
+                fit_both_formats(numbers, payload);
+            }
+            self.side = generator.below(2) as u8;
+        } else if generator.one_in(8) {
+            self.side ^= 1;
         }
+        next
     }
 }
 
@@ -141,7 +152,10 @@ fn some_payload(generator: &mut Generator, numbers: &Given) -> Vec<u8> {
         (1, 0) => 255,
         _ => 16,
     };
-    let length = 1 + generator.below(most);
+    let length = match generator.below(8) {
+        0 | 1 => most,
+        _ => 1 + generator.below(most),
+    };
     generator.octets(length)
 }
 

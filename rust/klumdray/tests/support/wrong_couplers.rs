@@ -1,9 +1,11 @@
 //! References with one rule of the coupler turned round.
 
 use crate::couplers::{
-    forwarded, given, is_own, is_repetition, part, put_part, reference_step, Lent, Setting,
-    Stepper, CODES, LINE, MEDIUM, MEMORY, SETTINGS,
+    forwarded, is_own, is_repetition, part, put_part, reference_step, Lent, Setting, Stepper,
+    CODES, LINE, MEDIUM, MEMORY, SETTINGS,
 };
+use crate::repetitions::is_repetition_of;
+use inputs::frames::given;
 use reference::coupler::{lowered, Side, LARGEST_FRAME, ROOM_SIZE, TABLE_SIZE};
 use reference::{Format, Meaning};
 
@@ -72,7 +74,7 @@ fn with_code(lent: &mut Lent<'_>, class: usize, code: u8) -> u64 {
 }
 
 /// The meaning of a frame in a step that draws no refusal.
-fn accepted(lent: &mut Lent<'_>) -> Option<Meaning> {
+pub fn accepted(lent: &mut Lent<'_>) -> Option<Meaning> {
     let answer = reference_step(&mut Lent {
         setting: lent.setting,
         memory: &mut lent.memory.to_vec(),
@@ -95,28 +97,16 @@ fn may_pass(lent: &Lent<'_>, meaning: &Meaning) -> bool {
     coupler.may_pass(side, meaning.group, meaning.destination)
 }
 
-/// What of a meaning is compared with the remembered frame's.
-type Key = fn(&Meaning) -> (u16, u16, bool);
-
-const ADDRESSES: Key = |meaning| (meaning.source, meaning.destination, meaning.group);
-
-/// Whether a side remembers a frame that is like this meaning.
-fn is_remembered(memory: &[u8], side: u8, meaning: &Meaning, key: Key) -> bool {
-    let remembered = part(memory, side.into());
-    let frame = remembered.frame().map(reference::tp1::read);
-    frame.is_some_and(|frame| frame.map(|frame| key(&frame.meaning)) == Ok(key(meaning)))
-}
-
 /// Whether a frame of an accepted step is a repetition.
-fn repeats(lent: &Lent<'_>, heard: &Meaning) -> bool {
-    !lent.is_from_ip()
-        && !heard.first_sending
-        && is_remembered(lent.memory, lent.setting.side, heard, ADDRESSES)
+fn repeats(lent: &Lent<'_>) -> bool {
+    let remembered = part(lent.memory, lent.setting.side.into());
+    let frame = remembered.frame().unwrap_or(&[]);
+    !lent.is_from_ip() && is_repetition_of(frame, lent.octets)
 }
 
 /// The meaning of a frame in a step that draws no refusal, if it is no repetition.
 fn accepted_first(lent: &mut Lent<'_>) -> Option<Meaning> {
-    accepted(lent).filter(|heard| !repeats(lent, heard))
+    accepted(lent).filter(|_| !repeats(lent))
 }
 
 fn copies_check_octet(lent: &mut Lent<'_>) -> u64 {
@@ -138,7 +128,7 @@ fn lowers_seven(lent: &mut Lent<'_>) -> u64 {
     }
 }
 
-fn forwards_nothing(lent: &mut Lent<'_>) -> u64 {
+pub fn forwards_nothing(lent: &mut Lent<'_>) -> u64 {
     let before = lent.room.to_vec();
     let answer = reference_step(lent);
     lent.room.copy_from_slice(&before);
@@ -307,7 +297,7 @@ fn count_0_silences_own(lent: &mut Lent<'_>) -> u64 {
 }
 
 fn own_reported_once(lent: &mut Lent<'_>) -> u64 {
-    let repetition = accepted(lent).is_some_and(|heard| repeats(lent, &heard));
+    let repetition = accepted(lent).is_some() && repeats(lent);
     match reference_step(lent) {
         answer if repetition && is_own(answer) => ACKNOWLEDGEMENT,
         answer => answer,
@@ -327,60 +317,6 @@ fn repetition_forwarded(lent: &mut Lent<'_>) -> u64 {
     match reference_step(lent) {
         answer if is_repetition(answer) => forward(lent, answer, unchanged),
         answer => answer,
-    }
-}
-
-fn compares_payload(lent: &mut Lent<'_>) -> u64 {
-    let before = lent.memory.to_vec();
-    let answer = reference_step(lent);
-    if !is_repetition(answer) {
-        return answer;
-    }
-    let remembered = part(&before, lent.setting.side.into());
-    let frame = reference::tp1::read(remembered.frame().expect("the frame repeated"));
-    let payload = frame.expect("an accepted frame").payload;
-    match lent.heard() {
-        Some((_, repeated)) if repeated != payload => forward(lent, answer, unchanged),
-        _ => answer,
-    }
-}
-
-fn repetition_from_ip(lent: &mut Lent<'_>) -> u64 {
-    match accepted(lent) {
-        Some(heard)
-            if lent.is_from_ip()
-                && !heard.first_sending
-                && is_remembered(lent.memory, 0, &heard, ADDRESSES) =>
-        {
-            forwards_nothing(lent)
-        }
-        _ => reference_step(lent),
-    }
-}
-
-/// Takes for a repetition what is like the frame remembered, of this side (0) or the other (1).
-fn repetition(other: u8, key: Key) -> Box<Stepper> {
-    Box::new(move |lent| match accepted(lent) {
-        Some(heard)
-            if !lent.is_from_ip()
-                && !heard.first_sending
-                && is_remembered(lent.memory, lent.setting.side ^ other, &heard, key) =>
-        {
-            forwards_nothing(lent)
-        }
-        _ => reference_step(lent),
-    })
-}
-
-fn first_sending_repeats(lent: &mut Lent<'_>) -> u64 {
-    match accepted(lent) {
-        Some(heard)
-            if !lent.is_from_ip()
-                && is_remembered(lent.memory, lent.setting.side, &heard, ADDRESSES) =>
-        {
-            forwards_nothing(lent)
-        }
-        _ => reference_step(lent),
     }
 }
 
@@ -677,25 +613,6 @@ pub fn remembering() -> Vec<(&'static str, Box<Stepper>)> {
             Box::new(repetition_not_remembered),
         ),
         ("repetition forwarded", Box::new(repetition_forwarded)),
-        ("payload compared too", Box::new(compares_payload)),
-        ("repetition from IP", Box::new(repetition_from_ip)),
-        (
-            "first sending as repetition",
-            Box::new(first_sending_repeats),
-        ),
-        ("other side's frame repeated", repetition(1, ADDRESSES)),
-        (
-            "source not compared",
-            repetition(0, |heard| (0, heard.destination, heard.group)),
-        ),
-        (
-            "destination not compared",
-            repetition(0, |heard| (heard.source, 0, heard.group)),
-        ),
-        (
-            "AT not compared",
-            repetition(0, |heard| (heard.source, heard.destination, false)),
-        ),
         (
             "only forwarded remembered",
             Box::new(remembers_forwarded_only),
