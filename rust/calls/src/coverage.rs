@@ -1,12 +1,13 @@
 //! Tests that a table is about something: every function, every number, every outcome.
 
-use crate::answer::Answer;
+use crate::answer::{Answer, MEMORY_SIZE};
 use crate::call::{Function, FUNCTIONS};
 use crate::numbers::ranges;
-use crate::reader::{kinds, Reader};
+use crate::reader::{kinds, Reader, Row};
 use crate::rounds::{table, Options};
 use inputs::USUAL_SEED;
-use std::collections::BTreeSet;
+use reference::{tp1, Meaning};
+use std::collections::{BTreeMap, BTreeSet};
 
 mod tunnelling;
 
@@ -125,7 +126,7 @@ fn every_number_comes_from_every_function_that_has_it() {
 }
 
 /// What a step came to, as far as its answer and its medium tell.
-fn outcome(row: &crate::reader::Row) -> Option<(&'static str, bool, u32)> {
+fn outcome(row: &Row) -> Option<(&'static str, bool, u32)> {
     let answer = row.answer.number;
     if row.call.function != Function::Step || answer as u8 != 0 {
         return None;
@@ -158,6 +159,59 @@ fn every_outcome_of_a_step_comes() {
                 }
             }
         }
+    }
+}
+
+/// The frame heard and what its side remembers, if a step accepts a frame from TP1 that is marked
+/// repeated.
+fn heard_again(row: &Row) -> Option<(Vec<u8>, Vec<u8>)> {
+    let (_, on_ip, side) = outcome(row)?;
+    let heard = row.call.slices()[2].to_vec();
+    let memory = &row.call.rooms()[0];
+    let (size, octets) = memory[side as usize * MEMORY_SIZE / 2..].split_at(2);
+    let size = usize::from(u16::from_be_bytes([size[0], size[1]]));
+    let remembered = octets[..MEMORY_SIZE / 2 - 2].get(..size)?.to_vec();
+    let is_repeated = heard[0] & 0x20 == 0;
+    let from_ip = on_ip && side == 0;
+    (is_repeated && !from_ip).then_some((heard, remembered))
+}
+
+/// How a frame marked repeated that has the addresses of the one remembered differs from it, if it is
+/// no repetition: in the head, in the first, a later or the last octet of the payload, in the length.
+fn nearness((heard, remembered): (Vec<u8>, Vec<u8>)) -> Option<&'static str> {
+    let (one, other) = (tp1::read(&remembered).ok()?, tp1::read(&heard).ok()?);
+    let addresses = |it: &Meaning| (it.source, it.destination, it.group);
+    if addresses(&one.meaning) != addresses(&other.meaning) {
+        return None;
+    }
+    let head = |it: Meaning| (it.format, it.priority, it.count);
+    let mut pairs = one.payload.iter().zip(other.payload);
+    let place = pairs.position(|(one, other)| one != other);
+    let last = other.payload.len() - 1;
+    match (one.payload.len() == last + 1, place) {
+        _ if head(one.meaning) != head(other.meaning) => Some("head"),
+        (false, _) => Some("length"),
+        (true, Some(0)) => Some("first"),
+        (true, Some(place)) if place == last => Some("last"),
+        (true, Some(_)) => Some("between"),
+        (true, None) => None,
+    }
+}
+
+#[test]
+fn frames_like_the_one_remembered_come_and_are_forwarded() {
+    for options in [SHORT, SMALL] {
+        let octets = octets(options);
+        let mut forwarded = BTreeMap::new();
+        for row in Reader::new(&octets) {
+            let near = heard_again(&row).and_then(nearness);
+            if let (Some(near), Some(("forwarded", ..))) = (near, outcome(&row)) {
+                *forwarded.entry(near).or_insert(0) += 1;
+            }
+        }
+        println!("{forwarded:?}");
+        let kinds: Vec<_> = forwarded.keys().copied().collect();
+        assert_eq!(kinds, ["between", "first", "head", "last", "length"]);
     }
 }
 

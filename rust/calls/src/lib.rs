@@ -14,6 +14,7 @@ mod orders;
 mod plans;
 #[cfg(test)]
 mod reader;
+mod repetitions;
 mod rounds;
 mod table;
 mod traffic;

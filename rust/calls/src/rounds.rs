@@ -6,7 +6,7 @@ use crate::numbers::{all_outside, ranges};
 use crate::plans::Plan;
 use crate::table::{Table, Wrong};
 use crate::traffic::Series;
-use crate::{channels, datagrams, frames, orders, writes};
+use crate::{channels, datagrams, frames, orders, repetitions, writes};
 use inputs::plans::{Stores, MOST_COUPLERS, MOST_OWN, MOST_PROJECT};
 use inputs::Generator;
 
@@ -25,7 +25,8 @@ const ROUND: usize = 600;
 pub const LEAST: usize = 150;
 
 /// From so many calls on, a table begins with what is not left to chance: each number at each place
-/// outside its range, tunnelling with each two things wrong, the channels' counters past 255.
+/// outside its range, tunnelling with each two things wrong, the channels' counters past 255, frames one
+/// bit other than the one remembered.
 const LEAST_WITH_ALL: usize = 8000;
 
 /// Of so many calls, by function.
@@ -92,6 +93,7 @@ pub fn table(options: Options) -> Table {
         writer.numbers_outside();
         writer.orders();
         writer.counters();
+        writer.repetitions();
     }
     while writer.table.count() < options.count {
         let left = options.count - writer.table.count();
@@ -151,6 +153,13 @@ impl Writer {
     /// Tunnelling with one thing wrong, and with each two of them.
     fn orders(&mut self) {
         for (call, _) in orders::calls() {
+            self.table.add(&call);
+        }
+    }
+
+    /// Frames marked repeated, each one bit other than the one remembered.
+    fn repetitions(&mut self) {
+        for call in repetitions::calls() {
             self.table.add(&call);
         }
     }
