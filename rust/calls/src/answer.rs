@@ -156,19 +156,13 @@ fn step(
     Ok(outcome)
 }
 
-/// "a size from 1 to 7, which counts as a frame whose missing octets are 0": the reference is given
-/// the missing ones, up to 7 octets, since no frame that a step remembers is so short.
+/// A size from 1 to 7, and octets that are no frame: "a step compares these as they stand".
 fn part(octets: &[u8]) -> Remembered {
     let (size, frame) = octets.split_at(2);
-    let mut remembered = Remembered {
+    Remembered {
         size: usize::from(u16::from_be_bytes([size[0], size[1]])),
         octets: frame.try_into().expect("the octets of a part"),
-    };
-    if (1..=7).contains(&remembered.size) {
-        remembered.octets[remembered.size..].fill(0);
-        remembered.size = 7;
     }
-    remembered
 }
 
 /// The frame alone: "those behind the frame .. stay".
