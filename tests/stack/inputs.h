@@ -1,7 +1,8 @@
 /*
  * The inputs over which the stack of each exported call is measured: the longest frames of both
- * formats, every direction of a step, refusals, traces and explanations on a site of 255 couplers
- * with filter tables, over the longest path, and requests and acknowledgements with every outcome.
+ * formats, every direction of a step, a repetition, refusals, traces and explanations on a site of
+ * 255 couplers with filter tables, over the longest path, and requests and acknowledgements with
+ * every outcome.
  * Who includes this file measures one call by `lowest_of`, the lowest place of the stack that a
  * function without parameters comes to, and tells a figure by `tell_figure`.
  */
@@ -177,13 +178,21 @@ static void prepare(void)
     copy(acknowledgement, room, sizeof acknowledgement);
 }
 
+/* Marked repeated, the frame is compared with the one remembered; and back. */
+static void mark(void)
+{
+    tp1[0] ^= 0x20, tp1[tp1_length - 1] ^= 0x20;
+}
+
 static void steps(void)
 {
     for (side = 0; side < 2; side++)
         for (settings[9] = 0; settings[9] < 2; settings[9]++) {
             tp1[2] ^= 1, tp1[tp1_length - 1] ^= 1;
             try_call(step);
+            mark();
             try_call(step);
+            mark();
         }
     side = 2;
     try_call(step);
