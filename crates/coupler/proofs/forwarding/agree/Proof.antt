@@ -11,7 +11,7 @@ use Rattle.coupler.proofs.forwarding.agree.Statement.{statement}
 use Rattle.coupler.proofs.forwarding.agree.Tie as tie
 
 abbrev Inv-loop : tie.InvT-loop
-Inv-loop before octets control same₀ at₀ so-far at = (length before ≡ length octets) × ((at ≤ length octets + 1) × (so-far && same (left before at) (left octets at) ≡ agree before octets))
+Inv-loop before octets control same₀ at₀ so-far at = (at ≤ length octets + 1) × (so-far && same (left before at) (left octets at) ≡ agree before octets)
 
 abbrev μ-loop : tie.MeasureT-loop
 μ-loop before octets control same₀ at₀ so-far at = length octets - at
@@ -24,14 +24,10 @@ returns c =
 loop-holds : tie.Need-loop-holds Inv-loop μ-loop
 loop-holds c =
     let then = c .before .before .before .before in
-    let args = then .before .before .before .args in
-    let alike : length (args .before .now) ≡ length (args .octets .now) = omega arith in (
-      alike,
-      (
-        omega arith,
-        rw (c .unmarked2 .ensures, c .before .octet2 .ensures, c .before .before .unmarked .ensures, c .before .before .before .octet .ensures)
-            (agree-begins (args .before .now) (args .octets .now) alike),
-      ),
+    let args = then .before .before .before .args in (
+      omega arith,
+      rw (c .unmarked2 .ensures, c .before .octet2 .ensures, c .before .before .unmarked .ensures, c .before .before .before .octet .ensures)
+          (agree-begins (args .before .now) (args .octets .now) (omega arith)),
     )
 
 loop-again : tie.Need-loop-again Inv-loop μ-loop
@@ -39,16 +35,14 @@ loop-again c =
     let at-loop = c .before .before .before .loop in
     let then = c .before .before .before .before .before .before in
     let args = then .before .before .before .before .before .args in
-    let alike : length (args .before .now) ≡ length (args .octets .now) = at-loop .inv .0 in
-    (alike, (omega arith, agree-goes-on (args .before .now) (args .octets .now) (at-loop .at) (at-loop .same) (omega arith) alike (at-loop .inv .1 .1)))
+    (omega arith, agree-goes-on (args .before .now) (args .octets .now) (at-loop .at) (at-loop .same) (omega arith) (omega arith) (at-loop .inv .1))
 
 returns-2 : tie.Need-returns-2 Inv-loop μ-loop
 returns-2 c =
     let at-loop = c .before .loop in
     let then = c .before .before .before .before .before in
     let args = then .before .before .before .before .args in
-    let alike : length (args .before .now) ≡ length (args .octets .now) = at-loop .inv .0 in
-    agree-ends (args .before .now) (args .octets .now) (at-loop .at) (at-loop .same) (omega arith) alike (at-loop .inv .1 .1)
+    agree-ends (args .before .now) (args .octets .now) (at-loop .at) (at-loop .same) (omega arith) (omega arith) (at-loop .inv .1)
 
 pub agree-spec : {M : Type 1} → statement M
 agree-spec = tie.close (tie.spec Inv-loop μ-loop returns (λ c κs. search needs) (λ c κs. search needs) (λ c κs. search needs) (λ c κs. search needs)
