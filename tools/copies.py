@@ -24,7 +24,7 @@ class Copy:
                 if word == "ensures":
                     text = text[: text.rindex(word, 0, first)] + EMPTY + text[last:]
         text = text.replace('extern "C" ', "", 1)
-        return re.sub(rf"(?<![:.\w]){self.function.home[-1]}(?=\s*[(<])", self.name, text)
+        return re.sub(rf"(?<![:.\w]){self.function.home[-1]}(?=[(<])", self.name, text)
 
     def home(self):
         return self.function.home[:-1] + (self.name,)
