@@ -211,8 +211,8 @@
 #include <stddef.h>
 #include <stdint.h>
 
-/* 0.3.0, of this file and of the library that it is shipped with: two digits for each part. */
-#define KLUMDRAY_VERSION 0x000300
+/* 0.4.0, of this file and of the library that it is shipped with: two digits for each part. */
+#define KLUMDRAY_VERSION 0x000400
 
 #ifdef __cplusplus
 extern "C" {

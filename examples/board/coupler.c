@@ -40,6 +40,8 @@ static const uint8_t litres[] = {0xBC, 0x47, 0x15, 0x12, 0x34, 0xE3, 0x00, 0x80,
 static const uint8_t repeated[] = {0x9C, 0x47, 0x15, 0x12, 0x34, 0xE3,
                                    0x00, 0x80, 0x0C, 0x1A, 0x62};
 static const uint8_t damaged[] = {0xBC, 0x47, 0x15, 0x12, 0x34, 0xE3, 0x00, 0x80, 0x0C, 0x1B, 0x42};
+static const uint8_t sent_again[] = {0x9C, 0x47, 0x15, 0x12, 0x34, 0xE3,
+                                     0x00, 0x80, 0x0C, 0x1B, 0x63};
 static const uint8_t another[] = {0xBC, 0x47, 0x15, 0x12, 0x35, 0xE3, 0x00, 0x80, 0x0C, 0x1A, 0x43};
 static const uint8_t used_up[] = {0xBC, 0x47, 0x15, 0x12, 0x34, 0x83, 0x00, 0x80, 0x0C, 0x1A, 0x22};
 static const uint8_t to_meter[] = {0xBC, 0x11, 0x01, 0x47, 0x15, 0x61, 0x00, 0x80, 0xE0};
@@ -54,7 +56,8 @@ static const uint8_t too_long[KLUMDRAY_FRAME_SIZE + 9] = {
 static const struct arrival wire[] = {
     ARRIVAL(KLUMDRAY_SUB, litres, "the leak meter 4.7.21 reports litres to group 2/2/52"),
     ARRIVAL(KLUMDRAY_SUB, repeated, "the same, marked repeated"),
-    ARRIVAL(KLUMDRAY_SUB, damaged, "a litre more, one bit damaged on the way"),
+    ARRIVAL(KLUMDRAY_SUB, damaged, "its next report, one bit damaged on the way"),
+    ARRIVAL(KLUMDRAY_SUB, sent_again, "that report, marked repeated"),
     ARRIVAL(KLUMDRAY_SUB, another, "to group 2/2/53, which is not in the table"),
     ARRIVAL(KLUMDRAY_SUB, used_up, "its count is used up"),
     ARRIVAL(KLUMDRAY_MAIN, to_meter, "1.1.1 asks the leak meter"),
