@@ -1,4 +1,6 @@
--- Two frames agree "except the repeat bit and the check octet": the laws of the loop that compares them.
+-- Octets that agree "except the repeat bit and the check octet": the laws of the loop that compares them; what agreement is, place by place;
+-- and of frames, that it is the same frame sent again. For what is compared of a frame is its repeat without the check octet, and one layout
+-- has one meaning.
 use Prim.Native.Nat.{ℕ, zero, suc, _+_, _-_, _*_, _/_, _%_, _<_}
 use mathlib.Core.Bool.{Bool, true, false, cond, not, _&&_}
 use mathlib.Core.List.{List, [], _∷_, _++_}
@@ -10,7 +12,7 @@ use lib.Dec.{eqb}
 use lib.ListN.{length, take, drop, length-append}
 use lib.Seq.{length-take-le, drop-cons, getD-take, ext-getD, take-at}
 use borrow.Author.Tests.{eq-eqb, ne-eqb, eqb-true, not-true}
-use Rattle.octets.proofs.Truth.{never, and-true, and-yes, and-false}
+use Rattle.octets.proofs.Truth.{never, and-true, and-yes}
 use Rattle.octets.specs.Octets.{octetAt, weigh}
 use Rattle.octets.specs.Check.{checkOctet}
 use Rattle.frame.specs.Fields.{controlOf, ctrleOf, fieldsOf}
@@ -32,7 +34,7 @@ agree-length a b n = rw (ne-eqb (length a) (length b) n) refl
 abbrev pub left : List ℕ → ℕ → List ℕ
 left s at = take (length s - 1 - at) (drop at s)
 
--- at the start: the control octets are compared, and nothing behind them
+-- at the start the control octets are compared, and what is behind them is left
 pub agree-begins : (a b : List ℕ) → length a ≡ length b → eqb (unmarked (octetAt a 0)) (unmarked (octetAt b 0)) && same (left a 1) (left b 1) ≡ agree a b
 unfolding agree
 agree-begins [] [] e = rw (eq-eqb (unmarked 0) (unmarked 0) refl) refl
@@ -68,7 +70,7 @@ agree-ends a b at so-far h e z =
 
 -- what agreement is
 
-pub same-iff : (a b : List ℕ) → same a b ≡ true ↔ (a ≡ b)
+same-iff : (a b : List ℕ) → same a b ≡ true ↔ (a ≡ b)
 same-iff a b = (to a b, λ e. subst (λ (l : List ℕ). same a l ≡ true) e (self a))
   where
     self : (a : List ℕ) → same a a ≡ true
@@ -83,7 +85,7 @@ same-iff a b = (to a b, λ e. subst (λ (l : List ℕ). same a l ≡ true) e (se
         let q = and-true (eqb o p) (same os ps) e in
         ap (λ (n : ℕ). n ∷ os) (eqb-true o p (q .0)) ∙ ap (λ (l : List ℕ). p ∷ l) (to os ps (q .1))
 
-pub agree-iff : (a b : List ℕ) → agree a b ≡ true ↔ ((length a ≡ length b) × (compared a ≡ compared b))
+agree-iff : (a b : List ℕ) → agree a b ≡ true ↔ ((length a ≡ length b) × (compared a ≡ compared b))
 unfolding agree
 agree-iff a b = (
   (λ e.
@@ -169,7 +171,7 @@ repeated-control m = go (m .extended) (m .first) (m .priority % 4 * 4) (omega ar
 -- what is compared of a frame is what its repeat has before the check octet
 compared-frame : (m : Meaning) (p : List ℕ) → compared (tp1Octets m p) ≡ head (repeated m) (length p - 1) ++ p
 unfolding tp1Octets sealed head ctrleOf
-compared-frame m p = go (m .extended) refl
+compared-frame m p = go (m .extended)
   where
     lg : ℕ
     lg = length p - 1
@@ -179,10 +181,10 @@ compared-frame m p = go (m .extended) refl
         let n : length (t ++ (c ∷ [])) - 1 ≡ length t = rw (length-append t (c ∷ [])) (omega arith) in
         rw (n, take-at t (c ∷ []) (length t) refl) refl
 
-    go : (extended : Bool) → m .extended ≡ extended → compared (cond extended (extendedHead m lg) (standardHead m lg) ++ p ++ (checkOctet (cond extended (extendedHead m lg) (standardHead m lg) ++ p) ∷ []))
+    go : (extended : Bool) → compared (cond extended (extendedHead m lg) (standardHead m lg) ++ p ++ (checkOctet (cond extended (extendedHead m lg) (standardHead m lg) ++ p) ∷ []))
         ≡ cond extended (extendedHead (repeated m) lg) (standardHead (repeated m) lg) ++ p
-    go true e = behind (controlOf m) (fieldsOf m lg ++ p) _ ∙ ap (λ (c : ℕ). c ∷ fieldsOf m lg ++ p) (repeated-control m)
-    go false e = behind (controlOf m) (drop 1 (standardHead m lg) ++ p) _ ∙ ap (λ (c : ℕ). c ∷ drop 1 (standardHead m lg) ++ p) (repeated-control m)
+    go true = behind (controlOf m) (fieldsOf m lg ++ p) _ ∙ ap (λ (c : ℕ). c ∷ fieldsOf m lg ++ p) (repeated-control m)
+    go false = behind (controlOf m) (drop 1 (standardHead m lg) ++ p) _ ∙ ap (λ (c : ℕ). c ∷ drop 1 (standardHead m lg) ++ p) (repeated-control m)
 
 -- a frame's repeat is a frame
 repeated-valid : (m : Meaning) (p : List ℕ) → Valid m p → Valid (repeated m) p

@@ -31,7 +31,7 @@ use Rattle.tp1.specs.Layout.{tp1Octets}
 use Rattle.promises.proofs.Demand2.{IsFrame}
 use Rattle.promises.proofs.Heard.{IsFrameOn, Hears, hears-iff, refuses-iff}
 use Rattle.promises.proofs.Surface.{step-back, remembered-read}
-use Rattle.promises.proofs.Step.{rememberedBy, Draws, Refuses, StepEnds, accepts, refuses, step-ends, forwards-exactly, Roomy, remembers-the-frame}
+use Rattle.promises.proofs.Step.{rememberedBy, Earns, Draws, Refuses, StepEnds, accepts, refuses, step-ends, forwards-exactly, Roomy, remembers-the-frame}
 
 -- a step that accepts a frame from TP1
 pub record Accepts (k : Coupler) (m : Memory) (s room : List ℕ) (x : Meaning) (p : List ℕ) (o : Outcome) (m′ : Memory) (room′ : List ℕ) : Type 0 where
@@ -192,7 +192,7 @@ module _ {k : Coupler} {m m₁ m₂ : Memory} {s t room₁ room₂ room₁′ ro
   -- .. which draws what the first drew, but is not forwarded: "repetition or not", it is acknowledged ..
   pub repeat-stopped : SentAgain x p y q → (o₂ ≡ record { number = 0; acknowledgement = o₁ .acknowledgement; own = o₁ .own; forwarded = 0 }) × (room₂′ ≡ room₂)
   repeat-stopped g =
-      let stopped = stays-back b (comes-again s (is-frame a) (accepted-recalled roomy a) b .1 g) in
+      let stopped = again-stopped s (is-frame a) (accepted-recalled roomy a) b g in
       let e : y ≡ repeated x = again-iff x y p q .1 g .0 in
       let own : o₂ .own ≡ o₁ .own = draws b .itself ∙ ap (isForItself k) e ∙ sym (draws a .itself) in
       let acknowledgement : o₂ .acknowledgement ≡ o₁ .acknowledgement = acknowledgement-apart _ _ (acknowledged-alike e) in
@@ -217,17 +217,20 @@ pub record Survives (k : Coupler) (y : Meaning) (q room₃ : List ℕ) (o₃ : O
   pub forwarded : o₃ .forwarded ≡ length (forwardedOctets k y q)
   pub left : room₃′ ≡ over (forwardedOctets k y q) room₃
 
-pub increment-survives : {k : Coupler} {m m₁ m₂ m₃ : Memory} {one damaged repeat room₁ room₂ room₃ room₁′ room₂′ room₃′ : List ℕ} {o₁ o₂ o₃ : Outcome} {x y : Meaning} {p q : List ℕ} {r : Refusal} → Roomy m
-    → Accepts k m one room₁ x p o₁ m₁ room₁′
-    → Rejects k m₁ damaged room₂ r o₂ m₂ room₂′
-    → Accepts k m₂ repeat room₃ y q o₃ m₃ room₃′
-    → IsAnother x p y q
-    → isAllowed k y ≡ true
-    → Refuses m₁ room₂ r o₂ m₂ room₂′ × Survives k y q room₃ o₃ room₃′
-increment-survives {k = k} {one = one} {y = y} roomy a b c n allowed =
-    let rejected = refused-by b in
-    let forwarded = another-forwarded one (is-frame a) (ap (rememberedBy k) (rejected .remembers-as-before) ∙ accepted-recalled roomy a) c n allowed in
-    (rejected, record { accepted = draws c .accepted; acknowledged = draws c .acknowledged (record { on-tp1 = c .on-tp1; addressed = or-right (isForItself k y) (isAllowed k y) allowed }); forwarded = forwarded .0; left = forwarded .1 })
+module _ {k : Coupler} {m m₁ m₂ m₃ : Memory} {one damaged repeat room₁ room₂ room₃ room₁′ room₂′ room₃′ : List ℕ} {o₁ o₂ o₃ : Outcome} {x y : Meaning} {p q : List ℕ} {r : Refusal}
+    (roomy : Roomy m) (a : Accepts k m one room₁ x p o₁ m₁ room₁′) (b : Rejects k m₁ damaged room₂ r o₂ m₂ room₂′) (c : Accepts k m₂ repeat room₃ y q o₃ m₃ room₃′) where
+  still-recalled : rememberedBy k m₂ ≡ one
+  still-recalled = ap (rememberedBy k) (refused-by b .remembers-as-before) ∙ accepted-recalled roomy a
+
+  pub increment-survives : IsAnother x p y q → isAllowed k y ≡ true → Refuses m₁ room₂ r o₂ m₂ room₂′ × Survives k y q room₃ o₃ room₃′
+  increment-survives n allowed =
+      let forwarded = another-forwarded one (is-frame a) still-recalled c n allowed in
+      let earned : Earns k y = record { on-tp1 = c .on-tp1; addressed = or-right (isForItself k y) (isAllowed k y) allowed } in
+      (refused-by b, record { accepted = draws c .accepted; acknowledged = draws c .acknowledged earned; forwarded = forwarded .0; left = forwarded .1 })
+
+  -- where the second telegram has the first one's octets no rule can tell the two stories apart: its repeat is a repetition
+  pub equal-increment-lost : SentAgain x p y q → (o₃ .forwarded ≡ 0) × (room₃′ ≡ room₃)
+  equal-increment-lost = again-stopped one (is-frame a) still-recalled c
 
 -- Through the C surface, with settings and a memory of the right size: what the header's helpers read in the answer, and before the step in the
 -- block, is so related.
