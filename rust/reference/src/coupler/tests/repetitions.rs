@@ -47,6 +47,49 @@ fn some_payload(length: usize) -> Vec<u8> {
     (0..length).map(|place| (place * 7) as u8 ^ 0x5a).collect()
 }
 
+/// A first sending to group 1234h.
+fn sent_in(format: Format) -> Meaning {
+    Meaning {
+        format,
+        ..to_group(0x1234, 6)
+    }
+}
+
+/// A first sending of each length, and its payload.
+fn each_length() -> impl Iterator<Item = (Meaning, Vec<u8>)> {
+    LENGTHS
+        .into_iter()
+        .map(|(format, length)| (sent_in(format), some_payload(length)))
+}
+
+/// A frame on its way from TP1, as it is sent first and again.
+struct Sending {
+    medium: u8,
+    side: u8,
+    first: Vec<u8>,
+    /// The same marked repeated.
+    again: Vec<u8>,
+    /// The answer where it is no repetition.
+    onward: Answer,
+}
+
+impl Sending {
+    fn new((medium, side): (u8, u8), sent: &Meaning, payload: &[u8]) -> Sending {
+        Sending {
+            medium,
+            side,
+            first: frame_with(sent, payload),
+            again: frame_with(&repeated(*sent), payload),
+            onward: sent_on(medium, sent, payload),
+        }
+    }
+}
+
+/// Each length on each way from TP1.
+fn sendings() -> impl Iterator<Item = Sending> {
+    each_length().flat_map(|(sent, payload)| FROM_TP1.map(|way| Sending::new(way, &sent, &payload)))
+}
+
 // One bit.
 
 /// The refusal that one changed bit draws, the check octet being mended, in a frame from 4712h to
@@ -124,20 +167,15 @@ impl Pair {
 /// Pairs of each length, on each way from TP1, with each mark of the frame before and of the frame.
 fn pairs() -> Vec<Pair> {
     let mut pairs = Vec::new();
-    for (format, length) in LENGTHS {
-        let payload = some_payload(length);
-        let sent = Meaning {
-            format,
-            ..to_group(0x1234, 6)
-        };
-        for (way, marks) in (0..12).map(|pair| (pair / 4, pair % 4)) {
-            let (medium, side) = FROM_TP1[way];
+    for sending in sendings() {
+        let marked = [&sending.again, &sending.first];
+        for marks in 0..4 {
             pairs.push(Pair {
-                medium,
-                side,
-                before: frame_with(&marked(&sent, marks & 1 == 1), &payload),
-                octets: frame_with(&marked(&sent, marks & 2 == 2), &payload),
-                again: frame_with(&repeated(sent), &payload),
+                medium: sending.medium,
+                side: sending.side,
+                before: marked[marks % 2].clone(),
+                octets: marked[marks / 2].clone(),
+                again: sending.again.clone(),
             });
         }
     }
@@ -238,12 +276,7 @@ fn others(first: Meaning) -> [Meaning; 8] {
 
 #[test]
 fn another_source_destination_at_or_priority_is_no_repetition() {
-    for (format, length) in LENGTHS {
-        let payload = some_payload(length);
-        let first = Meaning {
-            format,
-            ..to_group(0x1234, 6)
-        };
+    for (first, payload) in each_length() {
         for other in others(first) {
             assert_no_repetition((&first, &payload), (&other, &payload));
             assert_no_repetition((&other, &payload), (&first, &payload));
@@ -253,11 +286,7 @@ fn another_source_destination_at_or_priority_is_no_repetition() {
 
 #[test]
 fn another_format_is_no_repetition() {
-    let standard = to_group(0x1234, 6);
-    let extended = Meaning {
-        format: Format::Extended,
-        ..standard
-    };
+    let (standard, extended) = (sent_in(Format::Standard), sent_in(Format::Extended));
     for length in 1..=16 {
         let payload = some_payload(length);
         assert_no_repetition((&standard, &payload), (&extended, &payload));
@@ -268,12 +297,7 @@ fn another_format_is_no_repetition() {
 /// "equal payload but another count"
 #[test]
 fn another_count_is_no_repetition() {
-    for (format, length) in LENGTHS {
-        let payload = some_payload(length);
-        let first = Meaning {
-            format,
-            ..to_group(0x1234, 0)
-        };
+    for (first, payload) in each_length() {
         for (one, two) in (0..64).map(|pair| (pair / 8, pair % 8)) {
             let (one, two) = (counted(first, one), counted(first, two));
             if two.count > 0 && one != two {
@@ -299,11 +323,7 @@ fn count_0_is_another_count() {
 #[test]
 fn another_length_is_no_repetition() {
     for (format, most) in [(Format::Standard, 16), (Format::Extended, 255)] {
-        let payload = some_payload(most);
-        let sent = Meaning {
-            format,
-            ..to_group(0x1234, 6)
-        };
+        let (sent, payload) = (sent_in(format), some_payload(most));
         for length in 1..most {
             let (short, long) = (&payload[..length], &payload[..length + 1]);
             assert_no_repetition((&sent, short), (&sent, long));
@@ -319,41 +339,25 @@ fn another_length_is_no_repetition() {
 /// The repeat bit of the remembered frame does not matter: a repeat of a repeat is a repetition.
 #[test]
 fn repeat_of_a_repeat() {
-    for (format, length) in LENGTHS {
-        for (medium, side) in FROM_TP1 {
-            let payload = some_payload(length);
-            let sent = Meaning {
-                format,
-                ..to_group(0x1234, 6)
-            };
-            let again = frame_with(&repeated(sent), &payload);
-            let mut coupler = open(0x47, medium);
-            coupler.accept(side, &frame_with(&sent, &payload));
-            for _ in 0..3 {
-                assert_eq!(coupler.take(side, &again), held());
-            }
+    for sending in sendings() {
+        let mut coupler = open(0x47, sending.medium);
+        coupler.accept(sending.side, &sending.first);
+        for _ in 0..3 {
+            assert_eq!(coupler.take(sending.side, &sending.again), held());
         }
     }
 }
 
 #[test]
 fn first_sending_is_never_a_repetition() {
-    for (format, length) in LENGTHS {
-        for (medium, side) in FROM_TP1 {
-            let payload = some_payload(length);
-            let sent = Meaning {
-                format,
-                ..to_group(0x1234, 6)
-            };
-            let onward = sent_on(medium, &sent, &payload);
-            let first = frame_with(&sent, &payload);
-            let mut coupler = open(0x47, medium);
-            for _ in 0..3 {
-                assert_eq!(coupler.take(side, &first), onward);
-            }
-            coupler.accept(side, &frame_with(&repeated(sent), &payload));
-            assert_eq!(coupler.take(side, &first), onward);
+    for sending in sendings() {
+        let (side, first) = (sending.side, &sending.first);
+        let mut coupler = open(0x47, sending.medium);
+        for _ in 0..3 {
+            assert_eq!(coupler.take(side, first), sending.onward);
         }
+        coupler.accept(side, &sending.again);
+        assert_eq!(coupler.take(side, first), sending.onward);
     }
 }
 
@@ -363,20 +367,20 @@ fn first_sending_is_never_a_repetition() {
 /// it is forwarded, though the telegram before differs from it in one bit of the increment alone.
 #[test]
 fn increment_whose_first_sending_was_damaged() {
-    let sent = to_group(0x1234, 6);
+    let sent = sent_in(Format::Standard);
     for (medium, side) in FROM_TP1 {
-        let (one, two) = ([0x00, 0x80, 0x0c, 0x1a], [0x00, 0x80, 0x0c, 0x1b]);
+        let [telegram_one, telegram_two] = [0x1a, 0x1b]
+            .map(|increment| Sending::new((medium, side), &sent, &[0x00, 0x80, 0x0c, increment]));
         let mut coupler = open(0x47, medium);
-        let telegram_one = coupler.take(side, &frame_with(&sent, &one));
-        assert_eq!(telegram_one, sent_on(medium, &sent, &one));
+        let answer = coupler.take(side, &telegram_one.first);
+        assert_eq!(answer, telegram_one.onward);
 
-        let mut damaged = frame_with(&sent, &two);
+        let mut damaged = telegram_two.first;
         damaged[8] ^= 0x40;
         assert_eq!(coupler.take(side, &damaged), refused(6));
-        let telegram_two = frame_with(&repeated(sent), &two);
-        let onward = sent_on(medium, &sent, &two);
-        assert_eq!(coupler.take(side, &telegram_two), onward);
-        assert_eq!(coupler.take(side, &telegram_two), held());
+        let answer = coupler.take(side, &telegram_two.again);
+        assert_eq!(answer, telegram_two.onward);
+        assert_eq!(coupler.take(side, &telegram_two.again), held());
     }
 }
 
@@ -425,14 +429,8 @@ fn remembered_octets_that_no_reader_accepts() {
 /// The same octets in another number, as no frame has them, are no repetition either.
 #[test]
 fn remembered_octets_in_another_number() {
-    for (format, length) in LENGTHS {
-        let payload = some_payload(length);
-        let sent = Meaning {
-            format,
-            ..to_group(0x1234, 6)
-        };
-        let onward = sent_on(TP1, &sent, &payload);
-        let again = frame_with(&repeated(sent), &payload);
+    for (sent, payload) in each_length() {
+        let Sending { again, onward, .. } = Sending::new((TP1, MAIN), &sent, &payload);
         for size in (0..=LARGEST_FRAME).filter(|&size| size != again.len()) {
             let mut coupler = remembering(&again);
             coupler.memory.main.size = size;
