@@ -177,14 +177,15 @@ fn pass_on(
     }
 }
 
+// A control octet without the repeat bit.
 fn unmarked(control: u8) -> u8
     ensures { λ r. ⌜ r ≡ unmarked control ⌝ }
 {
     control - control / 32 % 2 * 32
 }
 
-// "all octets must agree except the repeat bit and the check octet": compared where they lie, all of them, so that the compiler
-// takes many at once.
+// "all octets must agree except the repeat bit and the check octet": compared where they lie, and
+// all of them, so that the compiler takes many at once.
 fn agree(before: &[u8], octets: &[u8]) -> bool
     ensures { λ r. ⌜ r ≡ agree (now (before .entry)) (now (octets .entry)) ⌝ }
 {
