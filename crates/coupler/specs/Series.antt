@@ -1,12 +1,14 @@
 -- A series of frames: the step as a fold over a list of inputs, the memory handed on from each to the next.
+use mathlib.Core.Bool.{Bool, cond, not, _&&_}
 use mathlib.Core.List.{List, [], _∷_}
 use Prim.Native.Nat.{ℕ}
+use lib.Dec.{eqb}
 use lib.ListN.{length}
 use Rattle.octets.specs.Room.{over}
 use Rattle.coupler.specs.declared.Outcome.{Outcome}
 use Rattle.coupler.specs.declared.Memory.{Memory}
 use Rattle.coupler.specs.Memory.{recalled, sideOf}
-use Rattle.coupler.specs.Step.{Coupler, Did, heard, outcomeOf, sent, memoryAfter}
+use Rattle.coupler.specs.Step.{Coupler, fromIp, Did, heard, outcomeOf, sent, memoryAfter}
 
 pub record Input : Type 0 where
   pub coupler : Coupler
@@ -39,3 +41,13 @@ Follows m [] [] = Unit {0}
 Follows m [] (d ∷ ds) = ⊥
 Follows m (i ∷ is) [] = ⊥
 Follows m (i ∷ is) (d ∷ ds) = Did (i .coupler) m (i .octets) (i .room) (d .outcome) (d .memory) (d .room) × Follows (d .memory) is ds
+
+-- "the last accepted frame that was received from it", as inputs and answers tell it: a step accepts a frame from a TP1 side if its number is 0
+abbrev pub isAcceptedFrom : ℕ → Input → Done → Bool
+isAcceptedFrom side i d = eqb (d .outcome .number) 0 && (not (fromIp (i .coupler)) && eqb (i .coupler .setting .side) side)
+
+-- the last of a series, or what there was before it
+abbrev pub lastAccepted : ℕ → List ℕ → List Input → List Done → List ℕ
+lastAccepted side before [] ds = before
+lastAccepted side before (i ∷ is) [] = before
+lastAccepted side before (i ∷ is) (d ∷ ds) = lastAccepted side (cond (isAcceptedFrom side i d) (i .octets) before) is ds

@@ -1,13 +1,14 @@
 -- Which octets a coupler takes for a frame, and which refusal it gives otherwise: the settings' and the reader's one order. Both readers
 -- answer by the first test of their own order, and so do the settings; the two orders one behind the other are one. What is accepted is a
 -- layout by the readers' round trips.
-use Prim.Native.Nat.{ℕ}
+use Prim.Native.Nat.{ℕ, _<_}
 use mathlib.Core.Bool.{Bool, true, false}
 use mathlib.Core.List.{List}
 use mathlib.Core.Logic.{_↔_}
 use mathlib.Core.Path.{_≡_, refl, sym, ap, _∙_, subst}
+use lib.Dec.{ltb}
 use lib.ListN.{drop}
-use borrow.Author.Tests.{eqb-true, not-true}
+use borrow.Author.Tests.{ltb-true, eqb-true, not-true, not-false}
 use Rattle.cemi.proofs.LayoutLaws.{message-ranges}
 use Rattle.cemi.proofs.RoundTrip.{read-laid as cemi-read-laid, laid-read as cemi-laid-read, laid-payload as cemi-laid-payload}
 use Rattle.cemi.specs.Layout.{cemiOctets}
@@ -30,6 +31,7 @@ use Rattle.frame.specs.declared.Meaning.{Meaning}
 use Rattle.frame.specs.declared.Refusal.{Refusal}
 use Rattle.promises.proofs.Demand2.{IsFrame, IsMessage, IsDatagram}
 use Rattle.octets.proofs.Octets.{octets-drop}
+use Rattle.octets.proofs.Truth.{and-true}
 use Rattle.octets.specs.Octets.{Octets, octetAt}
 use Rattle.routing.proofs.RoundTrip.{read-datagram, datagram-read, datagram-payload}
 use Rattle.routing.specs.Layout.{datagram}
@@ -50,6 +52,10 @@ IsFrameOn s m p true = (information : List ℕ) × IsDatagram s (indication m) i
 pub record Hears (k : Coupler) (s : List ℕ) (room : ℕ) (m : Meaning) (p : List ℕ) : Type 0 where
   pub set : NoneOf (settingTests k room)
   pub is : IsFrameOn s m p (fromIp k)
+
+-- then its side is one of the two
+pub hears-side : {k : Coupler} {s : List ℕ} {room : ℕ} {m : Meaning} {p : List ℕ} → Hears k s room m p → k .setting .side < 2
+hears-side {k} h = ltb-true (k .setting .side) 2 (and-true (ltb (k .setting .side) 2) (ltb (k .setting .medium) 2) (not-false _ (h .set .1 .1 .0)) .0)
 
 -- a message that is read where only indications are is the indication of its meaning
 is-indication : (x : Message) (k : ℕ) → messageInRange IndicationOnly x k ≡ true → x ≡ indication (x .meaning)

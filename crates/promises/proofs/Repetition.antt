@@ -6,9 +6,7 @@ use mathlib.Core.Bool.{true, false, _||_}
 use mathlib.Core.List.{List}
 use mathlib.Core.Logic.{_↔_}
 use mathlib.Core.Path.{_≡_, refl, sym, ap, _∙_, subst}
-use lib.Dec.{ltb}
 use lib.ListN.{length, getD, take, drop}
-use borrow.Author.Tests.{ltb-true, not-false}
 use Rattle.coupler.proofs.Apart.{frame-nothing, frame-one, nothing-one}
 use Rattle.coupler.proofs.Answers.{acknowledgement-apart}
 use Rattle.coupler.proofs.Promised.{Forwardable, forwardable-iff}
@@ -24,12 +22,12 @@ use Rattle.frame.specs.declared.Refusal.{Refusal}
 use Rattle.klumdray.proofs.BlockLaws.{right-block}
 use Rattle.klumdray.specs.Block.{memoryIn, lentRight, heardThrough, SteppedThrough}
 use Rattle.klumdray.specs.Decoding.{forwardedIn, rememberedSize, rememberedStart}
-use Rattle.octets.proofs.Truth.{by-cases, never, and-true, or-right}
+use Rattle.octets.proofs.Truth.{by-cases, never, or-right}
 use Rattle.octets.specs.Octets.{Octets}
 use Rattle.octets.specs.Room.{over}
 use Rattle.tp1.specs.Layout.{tp1Octets}
 use Rattle.promises.proofs.Demand2.{IsFrame}
-use Rattle.promises.proofs.Heard.{IsFrameOn, Hears, hears-iff, refuses-iff}
+use Rattle.promises.proofs.Heard.{IsFrameOn, Hears, hears-side, hears-iff, refuses-iff}
 use Rattle.promises.proofs.Surface.{step-back, remembered-read}
 use Rattle.promises.proofs.Step.{rememberedBy, Earns, Draws, Refuses, StepEnds, accepts, refuses, step-ends, forwards-exactly, Roomy, remembers-the-frame}
 
@@ -46,6 +44,13 @@ pub record Rejects (k : Coupler) (m : Memory) (s room : List ℕ) (r : Refusal) 
   pub did : Did k m s room o m′ room′
   pub first : FirstIs (stepTests k s (length room)) r
 
+-- an accepted frame is no repetition: acknowledged, and forwarded
+pub record Survives (k : Coupler) (x : Meaning) (p room : List ℕ) (o : Outcome) (room′ : List ℕ) : Type 0 where
+  pub accepted : o .number ≡ 0
+  pub acknowledged : acknowledgementNumber (o .acknowledgement) ≡ 0xCC
+  pub forwarded : o .forwarded ≡ length (forwardedOctets k x p)
+  pub left : room′ ≡ over (forwardedOctets k x p) room
+
 module _ {k : Coupler} {m : Memory} {s room : List ℕ} {o : Outcome} {m′ : Memory} {room′ : List ℕ} where
   -- such a step draws what its frame draws ..
   draws : {x : Meaning} {p : List ℕ} → Accepts k m s room x p o m′ room′ → Draws k m s room x p o m′ room′
@@ -61,12 +66,18 @@ module _ {k : Coupler} {m : Memory} {s room : List ℕ} {o : Outcome} {m′ : Me
       go (refuses r f d) = frame-nothing (sym (refuses-iff k s (length room) r .1 f) ∙ e)
 
   -- .. and is given the octets of that frame
-  is-frame : {x : Meaning} {p : List ℕ} → Accepts k m s room x p o m′ room′ → IsFrame s x p
+  pub is-frame : {x : Meaning} {p : List ℕ} → Accepts k m s room x p o m′ room′ → IsFrame s x p
   is-frame {x} {p} a = subst (IsFrameOn s x p) (a .on-tp1) (a .hears .is)
 
   -- where address, codes and count allow forwarding, what is remembered decides
   goes-on : {x : Meaning} {p : List ℕ} → Accepts k m s room x p o m′ room′ → isAllowed k x ≡ true → isRepetition (rememberedBy k m) s ≡ false → Forwardable k (rememberedBy k m) s x
   goes-on {x} a allowed e = forwardable-iff k (rememberedBy k m) s x .0 (rw (allowed, a .on-tp1, e) refl)
+
+  survives : {x : Meaning} {p : List ℕ} → Accepts k m s room x p o m′ room′ → isAllowed k x ≡ true → (isRepetition (rememberedBy k m) s ≡ true → ⊥) → Survives k x p room o room′
+  survives {x} a allowed n =
+      let forwarded = draws a .forwards (goes-on a allowed (by-cases (isRepetition (rememberedBy k m) s) (λ e. absurd (n e)) (λ e. e))) in
+      let earned : Earns k x = record { on-tp1 = a .on-tp1; addressed = or-right (isForItself k x) (isAllowed k x) allowed } in
+      record { accepted = draws a .accepted; acknowledged = draws a .acknowledged earned; forwarded = forwarded .0; left = forwarded .1 }
 
   stays-back : {x : Meaning} {p : List ℕ} → Accepts k m s room x p o m′ room′ → isRepetition (rememberedBy k m) s ≡ true → (o .forwarded ≡ 0) × (room′ ≡ room)
   stays-back a e = draws a .stops (λ f. never (sym (rw (a .on-tp1, e) refl) ∙ f .new))
@@ -79,13 +90,19 @@ module _ {k : Coupler} {m : Memory} {s room : List ℕ} {o : Outcome} {m′ : Me
     (λ e. stays-back a e .0),
   )
 
-  -- a frame that address, codes and count let through is not forwarded exactly if it is marked repeated and its octets agree, place by place
-  -- and in number, with those that its side remembers
-  pub stopped-exactly : {x : Meaning} {p : List ℕ} → Accepts k m s room x p o m′ room′ → isAllowed k x ≡ true → o .forwarded ≡ 0 ↔ ((x .first ≡ false) × Agrees (rememberedBy k m) s)
-  stopped-exactly {x} {p} a allowed =
+  places : {x : Meaning} {p : List ℕ} → Accepts k m s room x p o m′ room′ → isRepetition (rememberedBy k m) s ≡ true ↔ ((x .first ≡ false) × Agrees (rememberedBy k m) s)
+  places {x} {p} a =
       let f = is-frame a in
-      let places = subst (λ (l : List ℕ). isRepetition (rememberedBy k m) l ≡ true ↔ ((x .first ≡ false) × Agrees (rememberedBy k m) l)) (sym (f .layout)) (repetition-iff (rememberedBy k m) x p (f .valid)) in
-      ((λ z. places .0 (decides a allowed .0 z)), λ g. decides a allowed .1 (places .1 g))
+      subst (λ (l : List ℕ). isRepetition (rememberedBy k m) l ≡ true ↔ ((x .first ≡ false) × Agrees (rememberedBy k m) l)) (sym (f .layout)) (repetition-iff (rememberedBy k m) x p (f .valid))
+
+  -- a frame that address, codes and count let through is not forwarded exactly if it is marked repeated and its octets agree, place by place
+  -- and in number, with those that its side remembers ..
+  pub stopped-exactly : {x : Meaning} {p : List ℕ} → Accepts k m s room x p o m′ room′ → isAllowed k x ≡ true → o .forwarded ≡ 0 ↔ ((x .first ≡ false) × Agrees (rememberedBy k m) s)
+  stopped-exactly a allowed = ((λ z. places a .0 (decides a allowed .0 z)), λ g. decides a allowed .1 (places a .1 g))
+
+  -- .. and any other is acknowledged and forwarded
+  pub differing-forwarded : {x : Meaning} {p : List ℕ} → Accepts k m s room x p o m′ room′ → isAllowed k x ≡ true → ((x .first ≡ false) × Agrees (rememberedBy k m) s → ⊥) → Survives k x p room o room′
+  differing-forwarded a allowed n = survives a allowed (λ e. n (places a .0 e))
 
 -- a step that is given something else refuses it
 refused-by : {k : Coupler} {m m′ : Memory} {s room room′ : List ℕ} {r : Refusal} {o : Outcome} → Rejects k m s room r o m′ room′ → Refuses m room r o m′ room′
@@ -176,18 +193,18 @@ module _ {k : Coupler} {m : Memory} {s room : List ℕ} {o : Outcome} {m′ : Me
   again-stopped : SentAgain x p y q → (o .forwarded ≡ 0) × (room′ ≡ room)
   again-stopped g = stays-back a (comes-again .1 g)
 
-  -- any other is, where address, codes and count allow it
-  another-forwarded : IsAnother x p y q → isAllowed k y ≡ true → (o .forwarded ≡ length (forwardedOctets k y q)) × (room′ ≡ over (forwardedOctets k y q) room)
-  another-forwarded n allowed = draws a .forwards (goes-on a allowed (by-cases (isRepetition (rememberedBy k m) s) (λ e. absurd (not-again n (comes-again .0 e))) (λ e. e)))
+  pub again-exactly : isAllowed k y ≡ true → o .forwarded ≡ 0 ↔ SentAgain x p y q
+  again-exactly allowed = ((λ z. comes-again .0 (decides a allowed .0 z)), λ g. decides a allowed .1 (comes-again .1 g))
+
+  pub another-survives : IsAnother x p y q → isAllowed k y ≡ true → Survives k y q room o room′
+  another-survives n allowed = survives a allowed (λ e. not-again n (comes-again .0 e))
 
 -- two steps from one side: the first accepts a frame, whether marked repeated or not, and a frame comes behind it
 module _ {k : Coupler} {m m₁ m₂ : Memory} {s t room₁ room₂ room₁′ room₂′ : List ℕ} {o₁ o₂ : Outcome} {x y : Meaning} {p q : List ℕ}
     (roomy : Roomy m) (a : Accepts k m s room₁ x p o₁ m₁ room₁′) (b : Accepts k m₁ t room₂ y q o₂ m₂ room₂′) where
   -- that is stopped exactly if it is the first frame sent again ..
   pub repetition-exactly : isAllowed k y ≡ true → o₂ .forwarded ≡ 0 ↔ SentAgain x p y q
-  repetition-exactly allowed =
-      let again = comes-again s (is-frame a) (accepted-recalled roomy a) b in
-      ((λ z. again .0 (decides b allowed .0 z)), λ g. decides b allowed .1 (again .1 g))
+  repetition-exactly = again-exactly s (is-frame a) (accepted-recalled roomy a) b
 
   -- .. which draws what the first drew, but is not forwarded: "repetition or not", it is acknowledged ..
   pub repeat-stopped : SentAgain x p y q → (o₂ ≡ record { number = 0; acknowledgement = o₁ .acknowledgement; own = o₁ .own; forwarded = 0 }) × (room₂′ ≡ room₂)
@@ -205,28 +222,19 @@ module _ {k : Coupler} {m m₁ m₂ : Memory} {s t room₁ room₂ room₁′ ro
           (λ h. draws b .acknowledged (record { on-tp1 = b .on-tp1; addressed = due ∙ h }) ∙ sym (draws a .acknowledged (record { on-tp1 = a .on-tp1; addressed = h })))
           (λ h. draws b .silent (λ z. never (sym (z .addressed) ∙ due ∙ h)) ∙ sym (draws a .silent (λ z. never (sym (z .addressed) ∙ h))))
 
-  -- .. and any other is forwarded, where address, codes and count allow it
-  pub other-forwarded : IsAnother x p y q → isAllowed k y ≡ true → (o₂ .forwarded ≡ length (forwardedOctets k y q)) × (room₂′ ≡ over (forwardedOctets k y q) room₂)
-  other-forwarded = another-forwarded s (is-frame a) (accepted-recalled roomy a) b
+  -- .. and any other is acknowledged and forwarded, where address, codes and count allow it
+  pub other-forwarded : IsAnother x p y q → isAllowed k y ≡ true → Survives k y q room₂ o₂ room₂′
+  other-forwarded = another-survives s (is-frame a) (accepted-recalled roomy a) b
 
 -- The customer's story: "Our meter's second telegram was damaged on its first sending, its repeat came marked repeated". The first telegram is
 -- accepted, what is left of the second is refused, and its repeat, which is not the first telegram sent again, is acknowledged and forwarded.
-pub record Survives (k : Coupler) (y : Meaning) (q room₃ : List ℕ) (o₃ : Outcome) (room₃′ : List ℕ) : Type 0 where
-  pub accepted : o₃ .number ≡ 0
-  pub acknowledged : acknowledgementNumber (o₃ .acknowledgement) ≡ 0xCC
-  pub forwarded : o₃ .forwarded ≡ length (forwardedOctets k y q)
-  pub left : room₃′ ≡ over (forwardedOctets k y q) room₃
-
 module _ {k : Coupler} {m m₁ m₂ m₃ : Memory} {one damaged repeat room₁ room₂ room₃ room₁′ room₂′ room₃′ : List ℕ} {o₁ o₂ o₃ : Outcome} {x y : Meaning} {p q : List ℕ} {r : Refusal}
     (roomy : Roomy m) (a : Accepts k m one room₁ x p o₁ m₁ room₁′) (b : Rejects k m₁ damaged room₂ r o₂ m₂ room₂′) (c : Accepts k m₂ repeat room₃ y q o₃ m₃ room₃′) where
   still-recalled : rememberedBy k m₂ ≡ one
   still-recalled = ap (rememberedBy k) (refused-by b .remembers-as-before) ∙ accepted-recalled roomy a
 
   pub increment-survives : IsAnother x p y q → isAllowed k y ≡ true → Refuses m₁ room₂ r o₂ m₂ room₂′ × Survives k y q room₃ o₃ room₃′
-  increment-survives n allowed =
-      let forwarded = another-forwarded one (is-frame a) still-recalled c n allowed in
-      let earned : Earns k y = record { on-tp1 = c .on-tp1; addressed = or-right (isForItself k y) (isAllowed k y) allowed } in
-      (refused-by b, record { accepted = draws c .accepted; acknowledged = draws c .acknowledged earned; forwarded = forwarded .0; left = forwarded .1 })
+  increment-survives n allowed = (refused-by b, another-survives one (is-frame a) still-recalled c n allowed)
 
   -- where the second telegram has the first one's octets no rule can tell the two stories apart: its repeat is a repetition
   pub equal-increment-lost : SentAgain x p y q → (o₃ .forwarded ≡ 0) × (room₃′ ≡ room₃)
@@ -250,6 +258,5 @@ module _ (settings : List ℕ) (k : Coupler) (block s room : List ℕ) (answer :
       → forwardedIn answer ≡ 0 ↔ ((x .first ≡ false) × Agrees (take (rememberedSize block (k .setting .side)) (drop (rememberedStart (k .setting .side)) block)) s)
   stopped-through-c e h allowed =
       let exactly = stopped-exactly (record { octets = octets; did = inside; on-tp1 = e; hears = h }) allowed in
-      let side = ltb-true (k .setting .side) 2 (and-true (ltb (k .setting .side) 2) (ltb (k .setting .medium) 2) (not-false _ (h .set .1 .1 .0)) .0) in
-      let read = remembered-read block (k .setting .side) (right-block settings block right) side .1 in
+      let read = remembered-read block (k .setting .side) (right-block settings block right) (hears-side h) .1 in
       rw (read, forwarded-inside) exactly

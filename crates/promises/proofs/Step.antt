@@ -7,16 +7,17 @@ use mathlib.Core.List.{List, []}
 use mathlib.Core.Logic.{_↔_}
 use mathlib.Core.Path.{_≡_, refl, sym, ap, _∙_, subst, transport}
 use native.Mathlib.Omega.{arith}
-use lib.Dec.{ltb, eqb}
+use lib.Dec.{eqb}
 use lib.ListN.{length}
-use borrow.Author.Tests.{ltb-true, eqb-true, eqb-false, not-false, ne-eqb}
+use borrow.Author.Tests.{eqb-true, eqb-false, ne-eqb}
 use Rattle.coupler.proofs.Answers.{acknowledgement-apart}
 use Rattle.coupler.proofs.Apart.{frame-nothing}
 use Rattle.coupler.proofs.Promised.{Forwardable, forwardable-iff, forwarded-iff, acknowledged-iff, remembers-main, remembers-sub}
 use Rattle.coupler.proofs.Refusals.{number-iff}
 use Rattle.coupler.proofs.StepLaws.{forwarded-ranged, heard-size}
-use Rattle.coupler.specs.Memory.{recalled, sideOf, rememberedOn}
-use Rattle.octets.proofs.Truth.{never, and-true}
+use Rattle.coupler.specs.Memory.{recalled, remembering, sideOf, rememberedOn}
+use Rattle.octets.proofs.Room.{laid-length}
+use Rattle.octets.proofs.Truth.{never}
 use Rattle.passing.specs.Passing.{isOwn, mayPass}
 use Rattle.coupler.specs.Step.{Coupler, stepTests, fromIp, toIp, Heard, frame, nothing, heard, isForItself, isAllowed, repeats, isForwarded, acknowledgementBy, forwardedMeaning, indication, formOf, forwardedOctets, refusedOutcome, outcomeBy, sentBy, memoryAfter, Did, acknowledgementNumber}
 use Rattle.coupler.specs.declared.Acknowledgement.the-variants.{Silence, Acknowledged}
@@ -36,7 +37,7 @@ use Rattle.routing.specs.Layout.{routingOctets}
 use Rattle.tp1.specs.Layout.{tp1Octets}
 use Rattle.cemi.specs.Layout.{plainBits, plain}
 use Rattle.cemi.specs.Valid.{ValidInformation}
-use Rattle.promises.proofs.Heard.{IsFrameOn, valid-indication, Hears, hears-iff, refuses-iff}
+use Rattle.promises.proofs.Heard.{IsFrameOn, valid-indication, Hears, hears-side, hears-iff, refuses-iff}
 
 -- the frame that the receiving side remembers
 abbrev pub rememberedBy : Coupler → Memory → List ℕ
@@ -253,15 +254,17 @@ otherSide side = 1 - side
 pub record Remembers (m m′ : Memory) (side : ℕ) (s : List ℕ) : Type 0 where
   pub received : recalled (sideOf m′ side) ≡ s
   pub other : sideOf m′ (otherSide side) ≡ sideOf m (otherSide side)
+  pub roomy : Roomy m′
 
 remembers-on : (m : Memory) (side : ℕ) (s : List ℕ) → Roomy m → length s ≤ 263 → side < 2 → Remembers m (rememberedOn m side s) side s
+unfolding rememberedOn remembering
 remembers-on m side s w h b = go (eqb side 0) refl
   where
     main : Remembers m (rememberedOn m 0 s) 0 s
-    main = let e = remembers-main m s (w .main) h in record { received = e .0; other = e .1 }
+    main = let e = remembers-main m s (w .main) h in record { received = e .0; other = e .1; roomy = record { main = laid-length s 0 (m .main .octets) (omega (arith, w .main)) ∙ w .main; sub = w .sub } }
 
     sub : Remembers m (rememberedOn m 1 s) 1 s
-    sub = let e = remembers-sub m s (w .sub) h in record { received = e .0; other = e .1 }
+    sub = let e = remembers-sub m s (w .sub) h in record { received = e .0; other = e .1; roomy = record { main = w .main; sub = laid-length s 0 (m .sub .octets) (omega (arith, w .sub)) ∙ w .sub } }
 
     go : (c : Bool) → eqb side 0 ≡ c → Remembers m (rememberedOn m side s) side s
     go true e = subst (λ (n : ℕ). Remembers m (rememberedOn m n s) n s) (sym (eqb-true side 0 e)) main
@@ -275,9 +278,8 @@ pub remembers-the-frame : (k : Coupler) (m m′ : Memory) (s room room′ : List
 remembers-the-frame k m m′ s room room′ o c d y w f =
     let e : heard k s (length room) ≡ frame (w .meaning) (w .payload) = hears-iff k s (length room) (w .meaning) (w .payload) c .1 (w .hears) in
     let same : rememberedOn m (k .setting .side) s ≡ m′ = sym (d .memory ∙ ap (memoryAfter k m s) e ∙ rw f refl) in
-    let numbers = and-true (ltb (k .setting .side) 2) (ltb (k .setting .medium) 2) (not-false _ (w .hears .set .1 .1 .0)) in
     subst (λ (n : Memory). Remembers m n (k .setting .side) s) same
-    (remembers-on m (k .setting .side) s y (heard-size k s (length room) (w .meaning) (w .payload) c e f) (ltb-true (k .setting .side) 2 (numbers .0)))
+    (remembers-on m (k .setting .side) s y (heard-size k s (length room) (w .meaning) (w .payload) c e f) (hears-side (w .hears)))
 
 -- "A forwarded frame keeps format, priority, addresses and payload; its repeat flag says first sending; its count follows the rule of demand 2":
 -- 7 stays, any other drops by one
