@@ -22,7 +22,7 @@ use Rattle.octets.specs.Octets.{Octets}
 use Rattle.tp1.proofs.LayoutLaws.{length-octets}
 use Rattle.promises.proofs.Demand2.{IsFrame}
 use Rattle.promises.proofs.Heard.{IsFrameOn, Hears, hears-side}
-use Rattle.promises.proofs.Repetition.{Accepts, Survives, is-frame, stopped-exactly, differing-forwarded, SentAgain, IsAnother, again-exactly, another-survives}
+use Rattle.promises.proofs.Repetition.{Accepts, Stopped, Survives, is-frame, stopped-exactly, agreeing-stopped, differing-forwarded, SentAgain, IsAnother, again-exactly, another-survives}
 use Rattle.promises.proofs.Step.{rememberedBy, StepEnds, accepts, refuses, step-ends, accepts-exactly, Roomy, otherSide, Remembers, remembers-the-frame}
 
 -- "at the start none"
@@ -141,6 +141,10 @@ module _ (is : List Input) (ds : List Done) (i : Input) (d : Done) (octets : All
     -- that is not forwarded exactly if it is marked repeated and agrees with what was accepted last ..
     pub stopped-in-a-series : d .outcome .forwarded ≡ 0 ↔ ((x .first ≡ false) × Agrees preceding (i .octets))
     stopped-in-a-series = subst (λ (l : List ℕ). d .outcome .forwarded ≡ 0 ↔ ((x .first ≡ false) × Agrees l (i .octets))) recalls (stopped-exactly step allowed)
+
+    -- .. which is then acknowledged all the same, and the room stays ..
+    pub acknowledged-in-a-series : (x .first ≡ false) × Agrees preceding (i .octets) → Stopped (i .room) (d .outcome) (d .room)
+    acknowledged-in-a-series (e, g) = agreeing-stopped step allowed (e, subst (λ (l : List ℕ). Agrees l (i .octets)) (sym recalls) g)
 
     -- .. and any other is acknowledged and forwarded
     pub forwarded-in-a-series : ((x .first ≡ false) × Agrees preceding (i .octets) → ⊥) → Survives (i .coupler) x p (i .room) (d .outcome) (d .room)

@@ -44,7 +44,14 @@ pub record Rejects (k : Coupler) (m : Memory) (s room : List ℕ) (r : Refusal) 
   pub did : Did k m s room o m′ room′
   pub first : FirstIs (stepTests k s (length room)) r
 
--- an accepted frame is no repetition: acknowledged, and forwarded
+-- a frame that address, codes and count let through is acknowledged "repetition or not": stopped as one ..
+pub record Stopped (room : List ℕ) (o : Outcome) (room′ : List ℕ) : Type 0 where
+  pub accepted : o .number ≡ 0
+  pub acknowledged : acknowledgementNumber (o .acknowledgement) ≡ 0xCC
+  pub forwarded : o .forwarded ≡ 0
+  pub left : room′ ≡ room
+
+-- .. or forwarded
 pub record Survives (k : Coupler) (x : Meaning) (p room : List ℕ) (o : Outcome) (room′ : List ℕ) : Type 0 where
   pub accepted : o .number ≡ 0
   pub acknowledged : acknowledgementNumber (o .acknowledgement) ≡ 0xCC
@@ -73,11 +80,13 @@ module _ {k : Coupler} {m : Memory} {s room : List ℕ} {o : Outcome} {m′ : Me
   goes-on : {x : Meaning} {p : List ℕ} → Accepts k m s room x p o m′ room′ → isAllowed k x ≡ true → isRepetition (rememberedBy k m) s ≡ false → Forwardable k (rememberedBy k m) s x
   goes-on {x} a allowed e = forwardable-iff k (rememberedBy k m) s x .0 (rw (allowed, a .on-tp1, e) refl)
 
+  earned : {x : Meaning} {p : List ℕ} → Accepts k m s room x p o m′ room′ → isAllowed k x ≡ true → Earns k x
+  earned {x} a allowed = record { on-tp1 = a .on-tp1; addressed = or-right (isForItself k x) (isAllowed k x) allowed }
+
   survives : {x : Meaning} {p : List ℕ} → Accepts k m s room x p o m′ room′ → isAllowed k x ≡ true → (isRepetition (rememberedBy k m) s ≡ true → ⊥) → Survives k x p room o room′
-  survives {x} a allowed n =
+  survives a allowed n =
       let forwarded = draws a .forwards (goes-on a allowed (by-cases (isRepetition (rememberedBy k m) s) (λ e. absurd (n e)) (λ e. e))) in
-      let earned : Earns k x = record { on-tp1 = a .on-tp1; addressed = or-right (isForItself k x) (isAllowed k x) allowed } in
-      record { accepted = draws a .accepted; acknowledged = draws a .acknowledged earned; forwarded = forwarded .0; left = forwarded .1 }
+      record { accepted = draws a .accepted; acknowledged = draws a .acknowledged (earned a allowed); forwarded = forwarded .0; left = forwarded .1 }
 
   stays-back : {x : Meaning} {p : List ℕ} → Accepts k m s room x p o m′ room′ → isRepetition (rememberedBy k m) s ≡ true → (o .forwarded ≡ 0) × (room′ ≡ room)
   stays-back a e = draws a .stops (λ f. never (sym (rw (a .on-tp1, e) refl) ∙ f .new))
@@ -100,7 +109,12 @@ module _ {k : Coupler} {m : Memory} {s room : List ℕ} {o : Outcome} {m′ : Me
   pub stopped-exactly : {x : Meaning} {p : List ℕ} → Accepts k m s room x p o m′ room′ → isAllowed k x ≡ true → o .forwarded ≡ 0 ↔ ((x .first ≡ false) × Agrees (rememberedBy k m) s)
   stopped-exactly a allowed = ((λ z. places a .0 (decides a allowed .0 z)), λ g. decides a allowed .1 (places a .1 g))
 
-  -- .. and any other is acknowledged and forwarded
+  pub agreeing-stopped : {x : Meaning} {p : List ℕ} → Accepts k m s room x p o m′ room′ → isAllowed k x ≡ true → (x .first ≡ false) × Agrees (rememberedBy k m) s → Stopped room o room′
+  agreeing-stopped a allowed g =
+      let stopped = stays-back a (places a .1 g) in
+      record { accepted = draws a .accepted; acknowledged = draws a .acknowledged (earned a allowed); forwarded = stopped .0; left = stopped .1 }
+
+  -- .. and any other is forwarded
   pub differing-forwarded : {x : Meaning} {p : List ℕ} → Accepts k m s room x p o m′ room′ → isAllowed k x ≡ true → ((x .first ≡ false) × Agrees (rememberedBy k m) s → ⊥) → Survives k x p room o room′
   differing-forwarded a allowed n = survives a allowed (λ e. n (places a .0 e))
 
