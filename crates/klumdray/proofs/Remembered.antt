@@ -1,12 +1,13 @@
--- The block as the header's helpers read it: what a side remembers. After an accepted TP1 frame that is the frame; and a refused step leaves
--- block and room as they were.
+-- The block as the header's helpers read it: what a side remembers. A step is the step inside, of the memory that the block holds: a memory put
+-- into a block is read out of it again. After an accepted TP1 frame a side remembers the frame; and a refused step leaves block and room as
+-- they were.
 use Prim.Native.Nat.{ℕ, _+_, _%_, _≤_, _<_}
 use mathlib.Core.Bool.{Bool, true, false, cond, _&&_}
 use mathlib.Core.List.{List, [], _∷_}
 use mathlib.Core.Path.{_≡_, refl, sym, ap, _∙_}
 use native.Mathlib.Omega.{arith}
 use lib.Dec.{ltb, leb, eqb}
-use lib.ListN.{length, take, drop, length-append, length-drop}
+use lib.ListN.{length, take, drop, getD, length-append, length-drop}
 use lib.Seq.{length-take-le, take-all, take-at, drop-at}
 use borrow.Author.Tests.{ltb-true, ltb-false, leb-true, leb-false, le-ltb, lt-ltb, eqb-true, eqb-false, not-false}
 use Rattle.coupler.proofs.Apart.{frame-nothing}
@@ -14,22 +15,26 @@ use Rattle.coupler.proofs.Promised.{remembers-main, remembers-sub}
 use Rattle.coupler.proofs.Refusals.{accepted-iff}
 use Rattle.coupler.proofs.StepLaws.{heard-size}
 use Rattle.coupler.specs.Memory.{recalled, remembering, sideOf, rememberedOn}
-use Rattle.coupler.specs.Step.{Coupler, Heard, heardTp1, frame, nothing, heard, fromIp}
+use Rattle.coupler.specs.Step.{Coupler, Heard, heardTp1, frame, nothing, heard, fromIp, acknowledgementNumber, outcomeOf, memoryAfter, Did}
+use Rattle.coupler.specs.declared.Acknowledgement.the-variants.{Silence, Acknowledged}
+use Rattle.coupler.specs.declared.Acknowledgement.{Acknowledgement}
 use Rattle.coupler.specs.declared.Memory.{Memory}
+use Rattle.coupler.specs.declared.Outcome.{Outcome}
 use Rattle.coupler.specs.declared.Remembered.{Remembered}
 use Rattle.frame.proofs.Valid.{ranges-of}
+use Rattle.frame.specs.Answers.{Numbered}
 use Rattle.frame.specs.declared.Meaning.{Meaning}
 use Rattle.frame.specs.declared.Refusal.{Refusal}
 use Rattle.frame.specs.declared.Refusal.the-variants.{OutOfRange}
 use Rattle.klumdray.proofs.BlockLaws.{recalled-block, unchanged-block, remembered-block}
 use Rattle.klumdray.proofs.StepNumbers.{step-told}
 use Rattle.klumdray.specs.Block.{rememberedIn, memoryIn, halfOf, blockOf, heardThrough, SteppedThrough}
-use Rattle.klumdray.specs.Decoding.{numberIn, rememberedPart, rememberedSize, rememberedStart}
+use Rattle.klumdray.specs.Decoding.{numberIn, outcomeNumbered, outcomeFrom, outcomeIn, rememberedPart, rememberedSize, rememberedStart}
 use Rattle.klumdray.specs.Stages.{startOf, rememberedAt}
 use Rattle.octets.proofs.Room.{laid-front}
-use Rattle.octets.proofs.Truth.{and-true}
+use Rattle.octets.proofs.Truth.{by-cases, and-true}
 use Rattle.octets.proofs.Word.{word-back}
-use Rattle.octets.specs.Octets.{Octets}
+use Rattle.octets.specs.Octets.{Octets, weigh}
 use Rattle.octets.specs.Room.{laid}
 use Rattle.octets.specs.Word.{wordAt, high, low}
 use Rattle.tp1.proofs.LayoutLaws.{head-least, length-octets}
@@ -87,21 +92,44 @@ half-read r n =
     let w : wordAt (halfOf r) 0 ≡ r .size = word-back (r .size) in
     λ i. record { size = w i; octets = o i }
 
-module _ (m : Memory) (a : length (m .main .octets) ≡ 263) (b : length (m .sub .octets) ≡ 263) where
+-- a memory of the shape that its type has
+abbrev Shaped : Memory → Type 0
+Shaped m = (length (m .main .octets) ≡ 263) × (length (m .sub .octets) ≡ 263)
+
+module _ (m : Memory) (shape : Shaped m) where
   block-length : length (blockOf m) ≡ 530
   unfolding blockOf
-  block-length = rw (length-append (halfOf (m .main)) (halfOf (m .sub))) (omega arith)
+  block-length = rw (length-append (halfOf (m .main)) (halfOf (m .sub))) (omega (arith, shape .0, shape .1))
 
   block-read : memoryIn (blockOf m) ≡ m
   unfolding blockOf
   block-read =
-      let x : take 265 (blockOf m) ≡ halfOf (m .main) = take-at (halfOf (m .main)) (halfOf (m .sub)) 265 (half-length (m .main) a) in
-      let y : drop 265 (blockOf m) ≡ halfOf (m .sub) = drop-at (halfOf (m .main)) (halfOf (m .sub)) 265 (half-length (m .main) a) in
-      λ i. record { main = (ap rememberedIn x ∙ half-read (m .main) a) i; sub = (ap rememberedIn y ∙ half-read (m .sub) b) i }
+      let x : take 265 (blockOf m) ≡ halfOf (m .main) = take-at (halfOf (m .main)) (halfOf (m .sub)) 265 (half-length (m .main) (shape .0)) in
+      let y : drop 265 (blockOf m) ≡ halfOf (m .sub) = drop-at (halfOf (m .main)) (halfOf (m .sub)) 265 (half-length (m .main) (shape .0)) in
+      λ i. record { main = (ap rememberedIn x ∙ half-read (m .main) (shape .0)) i; sub = (ap rememberedIn y ∙ half-read (m .sub) (shape .1)) i }
 
 remembering-length : (r : Remembered) (s : List ℕ) → length (r .octets) ≡ 263 → length s ≤ 263 → length (remembering r s .octets) ≡ 263
 unfolding remembering
 remembering-length r s n k = rw (laid-front s (r .octets) (omega arith), length-append s (drop (length s) (r .octets)), length-drop (length s) (r .octets)) (omega arith)
+
+octets-263 : (half : List ℕ) → length half ≡ 265 → length (rememberedIn half .octets) ≡ 263
+octets-263 half n = length-take-le 263 (drop 2 half) (rw length-drop (omega arith))
+
+block-shape : (block : List ℕ) → length block ≡ 530 → Shaped (memoryIn block)
+block-shape block n = (octets-263 (take 265 block) (length-take-le 265 block (omega arith)), octets-263 (drop 265 block) (length-drop 265 block ∙ omega arith))
+
+remembered-shape : (m : Memory) (side : ℕ) (s : List ℕ) → Shaped m → length s ≤ 263 → Shaped (rememberedOn m side s)
+unfolding rememberedOn
+remembered-shape m side s (a, b) l = by-cases (eqb side 0) (λ e. rw e (remembering-length (m .main) s a l, b)) (λ e. rw e (a, remembering-length (m .sub) s b l))
+
+-- what a side recalls after a frame was put into its place
+recalls-put : (m : Memory) (side : ℕ) (s : List ℕ) → side < 2 → Shaped m → length s ≤ 263 → recalled (sideOf (rememberedOn m side s) side) ≡ s
+recalls-put m side s h (a, b) l =
+    by-cases (eqb side 0) (λ e. rw (eqb-true side 0 e) (remembers-main m s a l .0))
+    (λ e.
+    let d : side ≡ 0 → ⊥ = eqb-false side 0 e in
+    let one : side ≡ 1 = omega (arith, d) in
+    rw one (remembers-sub m s b l .0))
 
 -- an accepted step: settings and memory have their sizes, and a frame was heard
 record Accepted (right : Bool) (h : Heard) : Type 0 where
@@ -119,25 +147,21 @@ through-accepted true k s n none = go (heard k s n) refl
     go (nothing r) e = absurd (none r e)
 through-accepted false k s n none = absurd (none OutOfRange refl)
 
-octets-263 : (half : List ℕ) → length half ≡ 265 → length (rememberedIn half .octets) ≡ 263
-octets-263 half n = length-take-le 263 (drop 2 half) (rw length-drop (omega arith))
-
--- what a side recalls after a frame was put into its place, in a memory that keeps its shape
-record Recalls (m : Memory) (side : ℕ) (s : List ℕ) : Type 0 where
-  frame : recalled (sideOf m side) ≡ s
-  main : length (m .main .octets) ≡ 263
-  sub : length (m .sub .octets) ≡ 263
-
-recalls-put : (m : Memory) (side : ℕ) (s : List ℕ) → side < 2 → length (m .main .octets) ≡ 263 → length (m .sub .octets) ≡ 263 → length s ≤ 263 → Recalls (rememberedOn m side s) side s
-unfolding rememberedOn
-recalls-put m side s h a b l = go (eqb side 0) refl
+-- an outcome is read back from its parts
+outcome-read : (o : Outcome) (n : ℕ) → outcomeFrom n ≡ outcomeNumbered o → outcomeIn n ≡ o
+outcome-read o n e =
+    let value : (place : ℕ) → getD (outcomeFrom n .values) place 0 ≡ getD (outcomeNumbered o .values) place 0 = λ place. ap (λ (x : Numbered). getD (x .values) place 0) e in
+    let told = ap (λ (a : ℕ). cond (eqb a 0xCC) Acknowledged Silence) (value 0) ∙ acknowledged (o .acknowledgement) in
+    let own = ap (λ (b : ℕ). eqb b 1) (value 1) ∙ weighed (o .own) in
+    λ i. record { number = ap (λ (x : Numbered). x .number) e i; acknowledgement = told i; own = own i; forwarded = value 2 i }
   where
-    go : (z : Bool) → eqb side 0 ≡ z → Recalls (rememberedOn m side s) side s
-    go true e = rw (eqb-true side 0 e) (record { frame = remembers-main m s a l .0; main = remembering-length (m .main) s a l; sub = b })
-    go false e =
-        let d : side ≡ 0 → ⊥ = eqb-false side 0 e in
-        let one : side ≡ 1 = omega (arith, d) in
-        rw one (record { frame = remembers-sub m s b l .0; main = a; sub = remembering-length (m .sub) s b l })
+    acknowledged : (a : Acknowledgement) → cond (eqb (acknowledgementNumber a) 0xCC) Acknowledged Silence ≡ a
+    acknowledged Silence = refl
+    acknowledged Acknowledged = refl
+
+    weighed : (b : Bool) → eqb (weigh b 1) 1 ≡ b
+    weighed true = refl
+    weighed false = refl
 
 -- a TP1 frame that was heard has at least eight octets
 heard-least : (s : List ℕ) (m : Meaning) (p : List ℕ) → Octets s → heardTp1 (readTp1 s) s ≡ frame m p → 8 ≤ length s
@@ -157,24 +181,53 @@ module _ {right : Bool} {k : Coupler} {block s room : List ℕ} {answer : ℕ} {
 
   -- an accepted TP1 frame: its side is one of the two, it fits the block, and the block holds it
   record Kept : Type 0 where
-    size : length block ≡ 530
+    set : right ≡ true
     side : k .setting .side < 2
     least : 8 ≤ length s
     fits : length s ≤ 263
-    put : block′ ≡ blockOf (rememberedOn (memoryIn block) (k .setting .side) s)
+    held : memoryAfter k (memoryIn block) s (heard k s (length room)) ≡ rememberedOn (memoryIn block) (k .setting .side) s
 
   kept : numberIn answer ≡ 0 → fromIp k ≡ false → Kept
-  unfolding heardThrough
   kept z f =
       let a = accepted z in
       let x = accepted-iff k s (length room) (a .meaning) (a .payload) .0 (a .hears) in
       record {
-        size = lent (a .lent);
+        set = a .lent;
         side = ltb-true (k .setting .side) 2 (and-true (ltb (k .setting .side) 2) (ltb (k .setting .medium) 2) (not-false (ltb (k .setting .side) 2 && ltb (k .setting .medium) 2) (x .0 .1 .1 .0)) .0);
         least = heard-least s (a .meaning) (a .payload) os (rw f at (x .1));
         fits = heard-size k s (length room) (a .meaning) (a .payload) os (a .hears) f;
-        put = w .memory ∙ rw (a .lent, a .hears, f);
+        held = rw (a .hears, f) refl;
       }
+
+  -- with settings and memory of the right size, the block that is left holds the memory that the step inside leaves
+  module _ (a : right ≡ true) where
+    after-shape : Shaped (memoryAfter k (memoryIn block) s (heard k s (length room)))
+    after-shape = go (heard k s (length room)) refl
+      where
+        shape : Shaped (memoryIn block)
+        shape = block-shape block (lent a)
+
+        go : (h : Heard) → heard k s (length room) ≡ h → Shaped (memoryAfter k (memoryIn block) s h)
+        go (nothing r) e = shape
+        go (frame m p) e =
+            by-cases (fromIp k) (λ f. rw f shape) (λ f. rw f (remembered-shape (memoryIn block) (k .setting .side) s shape (heard-size k s (length room) m p os e f)))
+
+    put : block′ ≡ blockOf (memoryAfter k (memoryIn block) s (heard k s (length room)))
+    unfolding heardThrough
+    put = w .memory ∙ rw a
+
+    pub step-size : length block′ ≡ 530
+    step-size = ap length put ∙ block-length (memoryAfter k (memoryIn block) s (heard k s (length room))) after-shape
+
+    memory-read : memoryIn block′ ≡ memoryAfter k (memoryIn block) s (heard k s (length room))
+    memory-read = ap memoryIn put ∙ block-read (memoryAfter k (memoryIn block) s (heard k s (length room))) after-shape
+
+    -- and answer and room are that step's
+    pub step-inside : Did k (memoryIn block) s room (outcomeIn answer) (memoryIn block′) room′
+    unfolding heardThrough
+    step-inside =
+        let o = outcomeOf k (recalled (sideOf (memoryIn block) (k .setting .side))) s (length room) in
+        record { handed = record { outcome = outcome-read o answer (rw a at (step-told os w .decoded)); left = w .left ∙ rw a }; memory = memory-read }
 
   -- size and frame in the side's part, all else as it was
   pub step-remembers : Octets block → numberIn answer ≡ 0 → fromIp k ≡ false
@@ -183,22 +236,19 @@ module _ {right : Bool} {k : Coupler} {block s room : List ℕ} {answer : ℕ} {
   step-remembers ob z f =
       let x = kept z f in
       let n : length s % 65536 ≡ length s = omega (arith, x .fits) in
-      x .put ∙ sym (remembered-block block s (k .setting .side) (x .size) (x .fits) ob) ∙ rw (same-part (k .setting .side) (x .side), n)
+      put (x .set) ∙ ap blockOf (x .held) ∙ sym (remembered-block block s (k .setting .side) (lent (x .set)) (x .fits) ob) ∙ rw (same-part (k .setting .side) (x .side), n)
 
   -- and the helpers read the frame
   pub step-recalls : numberIn answer ≡ 0 → fromIp k ≡ false
       → (8 ≤ length s) × ((rememberedSize block′ (k .setting .side) ≡ length s) × (take (rememberedSize block′ (k .setting .side)) (drop (rememberedStart (k .setting .side)) block′) ≡ s))
   step-recalls z f =
       let x = kept z f in
-      let a : length (take 265 block) ≡ 265 = length-take-le 265 block (omega (arith, x .size)) in
-      let b : length (drop 265 block) ≡ 265 = length-drop 265 block ∙ omega (arith, x .size) in
-      let r = recalls-put (memoryIn block) (k .setting .side) s (x .side) (octets-263 (take 265 block) a) (octets-263 (drop 265 block) b) (x .fits) in
-      let held : Memory = rememberedOn (memoryIn block) (k .setting .side) s in
-      let n : length block′ ≡ 530 = ap length (x .put) ∙ block-length held (r .main) (r .sub) in
-      let m : memoryIn block′ ≡ held = ap memoryIn (x .put) ∙ block-read held (r .main) (r .sub) in
+      let n : length block′ ≡ 530 = step-size (x .set) in
+      let m : memoryIn block′ ≡ rememberedOn (memoryIn block) (k .setting .side) s = memory-read (x .set) ∙ x .held in
+      let r = recalls-put (memoryIn block) (k .setting .side) s (x .side) (block-shape block (lent (x .set))) (x .fits) in
       let size : ℕ = rememberedSize block′ (k .setting .side) in
       let from : List ℕ = drop (rememberedStart (k .setting .side)) block′ in
-      let e : take size from ≡ s = remembered-is block′ (k .setting .side) n (x .side) ∙ ap (λ (y : Memory). recalled (sideOf y (k .setting .side))) m ∙ r .frame in
+      let e : take size from ≡ s = remembered-is block′ (k .setting .side) n (x .side) ∙ ap (λ (y : Memory). recalled (sideOf y (k .setting .side))) m ∙ r in
       let l : length (take size from) ≡ size = length-take-le size from (rw length-drop (omega (arith, n, remembered-within block′ (k .setting .side) n (x .side)))) in
       (x .least, (sym l ∙ ap length e, e))
 

@@ -8,6 +8,7 @@ use mathlib.Core.Path.{_≡_}
 use lib.Dec.{ltb, leb, eqb}
 use lib.ListN.{length, take, drop, getD}
 use Rattle.coupler.specs.Step.{acknowledgementNumber}
+use Rattle.coupler.specs.declared.Acknowledgement.the-variants.{Silence, Acknowledged}
 use Rattle.coupler.specs.declared.Outcome.{Outcome}
 use Rattle.exchange.specs.Answers.{receivedNumbered}
 use Rattle.exchange.specs.declared.Received.the-variants.{Delivered, Refused as Unreceived}
@@ -170,6 +171,15 @@ outcomeNumbered o = record { number = o .number; values = acknowledgementNumber 
 
 abbrev pub outcomeFrom : ℕ → Numbered
 outcomeFrom n = record { number = numberIn n; values = acknowledgementIn n ∷ ownIn n ∷ forwardedIn n ∷ [] }
+
+-- the same as the outcome of a step
+abbrev pub outcomeIn : ℕ → Outcome
+outcomeIn n = record {
+  number = numberIn n;
+  acknowledgement = cond (eqb (acknowledgementIn n) 0xCC) Acknowledged Silence;
+  own = eqb (ownIn n) 1;
+  forwarded = forwardedIn n;
+}
 
 -- how many lines are listed, and "the number of forwardings made on the site"; with a refusal 0 and 0
 abbrev pub tracedNumbered : Traced → Numbered

@@ -3,4 +3,5 @@ pub mod Block
 pub mod Channels
 pub mod Traces
 pub mod Decoding
+pub mod Series
 pub mod Stages

@@ -36,15 +36,15 @@ unfolding recalled kept
 none-recalled side = by-cases (eqb side 0) (λ e. rw e refl) (λ e. rw e refl)
 
 -- what each side remembers after a step, in a memory as its type has it
-record Left (m : Memory) (i : Input) (d : Done) : Type 0 where
+record AfterStep (m : Memory) (i : Input) (d : Done) : Type 0 where
   roomy : Roomy (d .memory)
   recalls : (side : ℕ) → side < 2 → recalled (sideOf (d .memory) side) ≡ cond (isAcceptedFrom side i d) (i .octets) (recalled (sideOf m side))
 
 module _ (m : Memory) (i : Input) (d : Done) where
-  unchanged : Roomy m → d .memory ≡ m → ((side : ℕ) → isAcceptedFrom side i d ≡ false) → Left m i d
+  unchanged : Roomy m → d .memory ≡ m → ((side : ℕ) → isAcceptedFrom side i d ≡ false) → AfterStep m i d
   unchanged y e n = record { roomy = subst Roomy (sym e) y; recalls = λ side b. rw (n side, e) refl }
 
-  remembered : d .outcome .number ≡ 0 → fromIp (i .coupler) ≡ false → i .coupler .setting .side < 2 → Remembers m (d .memory) (i .coupler .setting .side) (i .octets) → Left m i d
+  remembered : d .outcome .number ≡ 0 → fromIp (i .coupler) ≡ false → i .coupler .setting .side < 2 → Remembers m (d .memory) (i .coupler .setting .side) (i .octets) → AfterStep m i d
   remembered z e one r = record { roomy = r .roomy; recalls = recalls }
     where
       own : ℕ
@@ -59,10 +59,10 @@ module _ (m : Memory) (i : Input) (d : Done) where
           let other : otherSide own ≡ side = omega arith in
           rw (z, e, differ) (ap recalled (subst (λ (n : ℕ). sideOf (d .memory) n ≡ sideOf m n) other (r .other))))
 
-  left : Roomy m → Octets (i .octets) → Did (i .coupler) m (i .octets) (i .room) (d .outcome) (d .memory) (d .room) → Left m i d
-  left y c f = go (step-ends (i .coupler) m (i .octets) (i .room) (d .outcome) (d .memory) (d .room) c f)
+  after-step : Roomy m → Octets (i .octets) → Did (i .coupler) m (i .octets) (i .room) (d .outcome) (d .memory) (d .room) → AfterStep m i d
+  after-step y c f = go (step-ends (i .coupler) m (i .octets) (i .room) (d .outcome) (d .memory) (d .room) c f)
     where
-      go : StepEnds (i .coupler) m (i .octets) (i .room) (d .outcome) (d .memory) (d .room) → Left m i d
+      go : StepEnds (i .coupler) m (i .octets) (i .room) (d .outcome) (d .memory) (d .room) → AfterStep m i d
       go (refuses r first a) = unchanged y (a .remembers-as-before) (λ side. rw (ne-eqb (d .outcome .number) 0 (λ z. number-some r (sym (a .numbered) ∙ z))) refl)
       go (accepts x p h a) =
           by-cases (fromIp (i .coupler)) (λ e. unchanged y (a .forgets-nothing e) (λ side. rw (a .accepted, e) refl))
@@ -87,7 +87,7 @@ last-of m [] (e ∷ g ∷ ds) i d r c f = absurd (f .1)
 last-of m (j ∷ []) [] i d r c f = absurd (f .1)
 last-of m (j ∷ l ∷ is) [] i d r c f = absurd (f .1)
 last-of m (j ∷ is) (e ∷ ds) i d r c f =
-    let then = left m j e r (c .0) (f .0) in
+    let then = after-step m j e r (c .0) (f .0) in
     let rest = last-of (e .memory) is ds i d (then .roomy) (c .1) (f .1) in
     record {
       memory = rest .memory;

@@ -6,29 +6,24 @@ use mathlib.Core.Bool.{true, false, _||_}
 use mathlib.Core.List.{List}
 use mathlib.Core.Logic.{_↔_}
 use mathlib.Core.Path.{_≡_, refl, sym, ap, _∙_, subst}
-use lib.ListN.{length, getD, take, drop}
+use lib.ListN.{length}
 use Rattle.coupler.proofs.Apart.{frame-nothing, frame-one, nothing-one}
 use Rattle.coupler.proofs.Answers.{acknowledgement-apart}
 use Rattle.coupler.proofs.Promised.{Forwardable, forwardable-iff}
 use Rattle.coupler.proofs.Repetition.{Agrees, repeated, repetition-iff, frame-repeats}
 use Rattle.coupler.specs.Memory.{isRepetition}
-use Rattle.coupler.specs.Step.{Coupler, stepTests, fromIp, heard, frame, nothing, isForItself, isAllowed, forwardedOctets, outcomeOf, memoryAfter, Did, acknowledgementNumber}
+use Rattle.coupler.specs.Step.{Coupler, stepTests, fromIp, heard, frame, nothing, isForItself, isAllowed, forwardedOctets, Did, acknowledgementNumber}
 use Rattle.coupler.specs.declared.Memory.{Memory}
 use Rattle.coupler.specs.declared.Outcome.{Outcome}
-use Rattle.frame.specs.Answers.{Numbered}
 use Rattle.frame.specs.Order.{FirstIs}
 use Rattle.frame.specs.declared.Meaning.{Meaning}
 use Rattle.frame.specs.declared.Refusal.{Refusal}
-use Rattle.klumdray.proofs.BlockLaws.{right-block}
-use Rattle.klumdray.specs.Block.{memoryIn, lentRight, heardThrough, SteppedThrough}
-use Rattle.klumdray.specs.Decoding.{forwardedIn, rememberedSize, rememberedStart}
 use Rattle.octets.proofs.Truth.{by-cases, never, or-right}
 use Rattle.octets.specs.Octets.{Octets}
 use Rattle.octets.specs.Room.{over}
 use Rattle.tp1.specs.Layout.{tp1Octets}
 use Rattle.promises.proofs.Demand2.{IsFrame}
-use Rattle.promises.proofs.Heard.{IsFrameOn, Hears, hears-side, hears-iff, refuses-iff}
-use Rattle.promises.proofs.Surface.{step-back, remembered-read}
+use Rattle.promises.proofs.Heard.{IsFrameOn, Hears, hears-iff, refuses-iff}
 use Rattle.promises.proofs.Step.{rememberedBy, Earns, Draws, Refuses, StepEnds, accepts, refuses, step-ends, forwards-exactly, Roomy, remembers-the-frame}
 
 -- a step that accepts a frame from TP1
@@ -253,24 +248,3 @@ module _ {k : Coupler} {m m₁ m₂ m₃ : Memory} {one damaged repeat room₁ r
   -- where the second telegram has the first one's octets no rule can tell the two stories apart: its repeat is a repetition
   pub equal-increment-lost : SentAgain x p y q → (o₃ .forwarded ≡ 0) × (room₃′ ≡ room₃)
   equal-increment-lost = again-stopped one (is-frame a) still-recalled c
-
--- Through the C surface, with settings and a memory of the right size: what the header's helpers read in the answer, and before the step in the
--- block, is so related.
-module _ (settings : List ℕ) (k : Coupler) (block s room : List ℕ) (answer : ℕ) (block′ room′ : List ℕ) (octets : Octets s) (w : SteppedThrough (lentRight settings block) k block s room answer block′ room′) (right : lentRight settings block ≡ true) where
-  abbrev inner : Outcome
-  inner = outcomeOf k (rememberedBy k (memoryIn block)) s (length room)
-
-  inside : Did k (memoryIn block) s room inner (memoryAfter k (memoryIn block) s (heard k s (length room))) room′
-  unfolding heardThrough
-  inside = record { handed = record { outcome = refl; left = rw right at (w .left) }; memory = refl }
-
-  forwarded-inside : forwardedIn answer ≡ inner .forwarded
-  unfolding heardThrough
-  forwarded-inside = ap (λ (n : Numbered). getD (n .values) 2 0) (rw right at (step-back settings k block s room answer block′ room′ octets w .decoded))
-
-  pub stopped-through-c : {x : Meaning} {p : List ℕ} → fromIp k ≡ false → Hears k s (length room) x p → isAllowed k x ≡ true
-      → forwardedIn answer ≡ 0 ↔ ((x .first ≡ false) × Agrees (take (rememberedSize block (k .setting .side)) (drop (rememberedStart (k .setting .side)) block)) s)
-  stopped-through-c e h allowed =
-      let exactly = stopped-exactly (record { octets = octets; did = inside; on-tp1 = e; hears = h }) allowed in
-      let read = remembered-read block (k .setting .side) (right-block settings block right) (hears-side h) .1 in
-      rw (read, forwarded-inside) exactly
