@@ -3,7 +3,7 @@
 -- was accepted it is that frame sent again, and no other.
 use Prim.Native.Nat.{ℕ}
 use mathlib.Core.Bool.{true, false, _||_}
-use mathlib.Core.List.{List}
+use mathlib.Core.List.{List, []}
 use mathlib.Core.Logic.{_↔_}
 use mathlib.Core.Path.{_≡_, refl, sym, ap, _∙_, subst}
 use lib.ListN.{length}
@@ -12,19 +12,19 @@ use Rattle.coupler.proofs.Answers.{acknowledgement-apart}
 use Rattle.coupler.proofs.Promised.{Forwardable, forwardable-iff}
 use Rattle.coupler.proofs.Repetition.{Agrees, repeated, repetition-iff, frame-repeats}
 use Rattle.coupler.specs.Memory.{isRepetition}
-use Rattle.coupler.specs.Step.{Coupler, stepTests, fromIp, heard, frame, nothing, isForItself, isAllowed, forwardedOctets, Did, acknowledgementNumber}
+use Rattle.coupler.specs.Step.{Coupler, stepTests, fromIp, heard, frame, nothing, kindOf, isForItself, isLetThrough, isAllowed, forwardedOctets, Did, acknowledgementNumber}
 use Rattle.coupler.specs.declared.Memory.{Memory}
 use Rattle.coupler.specs.declared.Outcome.{Outcome}
 use Rattle.frame.specs.Order.{FirstIs}
 use Rattle.frame.specs.declared.Meaning.{Meaning}
 use Rattle.frame.specs.declared.Refusal.{Refusal}
-use Rattle.octets.proofs.Truth.{by-cases, never, or-right}
+use Rattle.octets.proofs.Truth.{by-cases, never, and-true, or-right}
 use Rattle.octets.specs.Octets.{Octets}
 use Rattle.octets.specs.Room.{over}
 use Rattle.tp1.specs.Layout.{tp1Octets}
 use Rattle.promises.proofs.Demand2.{IsFrame}
 use Rattle.promises.proofs.Heard.{IsFrameOn, Hears, hears-iff, refuses-iff}
-use Rattle.promises.proofs.Step.{rememberedBy, Earns, Draws, Refuses, StepEnds, accepts, refuses, step-ends, forwards-exactly, Roomy, remembers-the-frame}
+use Rattle.promises.proofs.Step.{rememberedBy, Earns, Draws, Refuses, StepEnds, accepts, refuses, step-ends, forwards-exactly, Roomy, remembers-the-frame, own-never-passes}
 
 -- a step that accepts a frame from TP1
 pub record Accepts (k : Coupler) (m : Memory) (s room : List ℕ) (x : Meaning) (p : List ℕ) (o : Outcome) (m′ : Memory) (room′ : List ℕ) : Type 0 where
@@ -39,19 +39,30 @@ pub record Rejects (k : Coupler) (m : Memory) (s room : List ℕ) (r : Refusal) 
   pub did : Did k m s room o m′ room′
   pub first : FirstIs (stepTests k s (length room)) r
 
--- a frame that address, codes and count let through is acknowledged "repetition or not": stopped as one ..
-pub record Stopped (room : List ℕ) (o : Outcome) (room′ : List ℕ) : Type 0 where
+-- the answer to a frame that address, codes and count let through: "repetition or not" it is acknowledged, and these octets are forwarded
+pub record AnsweredWith (octets room : List ℕ) (o : Outcome) (room′ : List ℕ) : Type 0 where
   pub accepted : o .number ≡ 0
   pub acknowledged : acknowledgementNumber (o .acknowledgement) ≡ 0xCC
-  pub forwarded : o .forwarded ≡ 0
-  pub left : room′ ≡ room
+  pub not-itself : o .own ≡ false
+  pub forwarded : o .forwarded ≡ length octets
+  pub left : room′ ≡ over octets room
 
--- .. or forwarded
-pub record Survives (k : Coupler) (x : Meaning) (p room : List ℕ) (o : Outcome) (room′ : List ℕ) : Type 0 where
-  pub accepted : o .number ≡ 0
-  pub acknowledged : acknowledgementNumber (o .acknowledgement) ≡ 0xCC
-  pub forwarded : o .forwarded ≡ length (forwardedOctets k x p)
-  pub left : room′ ≡ over (forwardedOctets k x p) room
+-- none, where it is a repetition
+abbrev pub Stopped : List ℕ → Outcome → List ℕ → Type 0
+Stopped room o room′ = AnsweredWith [] room o room′
+
+-- the frame, where it is none
+abbrev pub Survives : Coupler → Meaning → List ℕ → List ℕ → Outcome → List ℕ → Type 0
+Survives k x p room o room′ = AnsweredWith (forwardedOctets k x p) room o room′
+
+-- that leaves no choice of outcome or room
+pub answered-one : {octets room : List ℕ} {o₁ o₂ : Outcome} {room₁ room₂ : List ℕ} → AnsweredWith octets room o₁ room₁ → AnsweredWith octets room o₂ room₂ → (o₁ ≡ o₂) × (room₁ ≡ room₂)
+answered-one {o₁ = o₁} {o₂} a b =
+    let number : o₁ .number ≡ o₂ .number = a .accepted ∙ sym (b .accepted) in
+    let acknowledgement : o₁ .acknowledgement ≡ o₂ .acknowledgement = acknowledgement-apart _ _ (a .acknowledged ∙ sym (b .acknowledged)) in
+    let own : o₁ .own ≡ o₂ .own = a .not-itself ∙ sym (b .not-itself) in
+    let forwarded : o₁ .forwarded ≡ o₂ .forwarded = a .forwarded ∙ sym (b .forwarded) in
+    ((λ i. record { number = number i; acknowledgement = acknowledgement i; own = own i; forwarded = forwarded i }), a .left ∙ sym (b .left))
 
 module _ {k : Coupler} {m : Memory} {s room : List ℕ} {o : Outcome} {m′ : Memory} {room′ : List ℕ} where
   -- such a step draws what its frame draws ..
@@ -78,10 +89,15 @@ module _ {k : Coupler} {m : Memory} {s room : List ℕ} {o : Outcome} {m′ : Me
   earned : {x : Meaning} {p : List ℕ} → Accepts k m s room x p o m′ room′ → isAllowed k x ≡ true → Earns k x
   earned {x} a allowed = record { on-tp1 = a .on-tp1; addressed = or-right (isForItself k x) (isAllowed k x) allowed }
 
+  not-own : {x : Meaning} {p : List ℕ} → Accepts k m s room x p o m′ room′ → isAllowed k x ≡ true → o .own ≡ false
+  not-own {x} a allowed =
+      let passes = and-true (isLetThrough k x) _ allowed .0 in
+      draws a .itself ∙ by-cases (isForItself k x) (λ e. never (sym passes ∙ own-never-passes (k .setting .line) (k .codes) (k .table) (k .setting .side) (kindOf x) (x .destination) e)) (λ e. e)
+
   survives : {x : Meaning} {p : List ℕ} → Accepts k m s room x p o m′ room′ → isAllowed k x ≡ true → (isRepetition (rememberedBy k m) s ≡ true → ⊥) → Survives k x p room o room′
   survives a allowed n =
       let forwarded = draws a .forwards (goes-on a allowed (by-cases (isRepetition (rememberedBy k m) s) (λ e. absurd (n e)) (λ e. e))) in
-      record { accepted = draws a .accepted; acknowledged = draws a .acknowledged (earned a allowed); forwarded = forwarded .0; left = forwarded .1 }
+      record { accepted = draws a .accepted; acknowledged = draws a .acknowledged (earned a allowed); not-itself = not-own a allowed; forwarded = forwarded .0; left = forwarded .1 }
 
   stays-back : {x : Meaning} {p : List ℕ} → Accepts k m s room x p o m′ room′ → isRepetition (rememberedBy k m) s ≡ true → (o .forwarded ≡ 0) × (room′ ≡ room)
   stays-back a e = draws a .stops (λ f. never (sym (rw (a .on-tp1, e) refl) ∙ f .new))
@@ -107,7 +123,7 @@ module _ {k : Coupler} {m : Memory} {s room : List ℕ} {o : Outcome} {m′ : Me
   pub agreeing-stopped : {x : Meaning} {p : List ℕ} → Accepts k m s room x p o m′ room′ → isAllowed k x ≡ true → (x .first ≡ false) × Agrees (rememberedBy k m) s → Stopped room o room′
   agreeing-stopped a allowed g =
       let stopped = stays-back a (places a .1 g) in
-      record { accepted = draws a .accepted; acknowledged = draws a .acknowledged (earned a allowed); forwarded = stopped .0; left = stopped .1 }
+      record { accepted = draws a .accepted; acknowledged = draws a .acknowledged (earned a allowed); not-itself = not-own a allowed; forwarded = stopped .0; left = stopped .1 }
 
   -- .. and any other is forwarded
   pub differing-forwarded : {x : Meaning} {p : List ℕ} → Accepts k m s room x p o m′ room′ → isAllowed k x ≡ true → ((x .first ≡ false) × Agrees (rememberedBy k m) s → ⊥) → Survives k x p room o room′
