@@ -20,8 +20,8 @@ use Rattle.coupler.specs.declared.Remembered.{Remembered}
 use Rattle.coupler.specs.declared.Setting.{Setting}
 use Rattle.frame.specs.Valid.{Valid}
 use Rattle.frame.specs.declared.Meaning.{Meaning}
-use Rattle.octets.proofs.Room.{laid-front}
-use Rattle.octets.proofs.Truth.{and-true}
+use Rattle.octets.proofs.Room.{laid-front, laid-length}
+use Rattle.octets.proofs.Truth.{by-cases, and-true}
 use Rattle.routing.proofs.LayoutLaws.{length-routing}
 use Rattle.routing.proofs.RoundTrip.{routing-read}
 use Rattle.routing.specs.Layout.{routingOctets}
@@ -112,6 +112,18 @@ remembers-main m s n k = (recalls (m .main) s n k, refl)
 pub remembers-sub : (m : Memory) (s : List ℕ) → length (m .sub .octets) ≡ 263 → length s ≤ 263 → (recalled (sideOf (rememberedOn m 1 s) 1) ≡ s) × (rememberedOn m 1 s .main ≡ m .main)
 unfolding rememberedOn
 remembers-sub m s n k = (recalls (m .sub) s n k, refl)
+
+-- a memory as its type has it: room for the largest frame on either side
+pub record Roomy (m : Memory) : Type 0 where
+  pub main : length (m .main .octets) ≡ 263
+  pub sub : length (m .sub .octets) ≡ 263
+
+pub remembered-roomy : (m : Memory) (side : ℕ) (s : List ℕ) → Roomy m → length s ≤ 263 → Roomy (rememberedOn m side s)
+unfolding rememberedOn remembering
+remembered-roomy m side s r k =
+    by-cases (eqb side 0)
+    (λ e. rw e (record { main = laid-length s 0 (m .main .octets) (omega (arith, r .main)) ∙ r .main; sub = r .sub }))
+    (λ e. rw e (record { main = r .main; sub = laid-length s 0 (m .sub .octets) (omega (arith, r .sub)) ∙ r .sub }))
 
 -- a series of steps, by value or in place, is the fold
 

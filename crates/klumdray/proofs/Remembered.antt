@@ -11,10 +11,10 @@ use lib.ListN.{length, take, drop, getD, length-append, length-drop}
 use lib.Seq.{length-take-le, take-all, take-at, drop-at}
 use borrow.Author.Tests.{ltb-true, ltb-false, leb-true, leb-false, le-ltb, lt-ltb, eqb-true, eqb-false, not-false}
 use Rattle.coupler.proofs.Apart.{frame-nothing}
-use Rattle.coupler.proofs.Promised.{remembers-main, remembers-sub}
+use Rattle.coupler.proofs.Promised.{remembers-main, remembers-sub, Roomy, remembered-roomy}
 use Rattle.coupler.proofs.Refusals.{accepted-iff}
 use Rattle.coupler.proofs.StepLaws.{heard-size}
-use Rattle.coupler.specs.Memory.{recalled, remembering, sideOf, rememberedOn}
+use Rattle.coupler.specs.Memory.{recalled, sideOf, rememberedOn}
 use Rattle.coupler.specs.Step.{Coupler, Heard, heardTp1, frame, nothing, heard, fromIp, acknowledgementNumber, outcomeOf, memoryAfter, Did}
 use Rattle.coupler.specs.declared.Acknowledgement.the-variants.{Silence, Acknowledged}
 use Rattle.coupler.specs.declared.Acknowledgement.{Acknowledgement}
@@ -31,7 +31,6 @@ use Rattle.klumdray.proofs.StepNumbers.{step-told}
 use Rattle.klumdray.specs.Block.{rememberedIn, memoryIn, halfOf, blockOf, heardThrough, SteppedThrough}
 use Rattle.klumdray.specs.Decoding.{numberIn, outcomeNumbered, outcomeFrom, outcomeIn, rememberedPart, rememberedSize, rememberedStart}
 use Rattle.klumdray.specs.Stages.{startOf, rememberedAt}
-use Rattle.octets.proofs.Room.{laid-front}
 use Rattle.octets.proofs.Truth.{by-cases, and-true}
 use Rattle.octets.proofs.Word.{word-back}
 use Rattle.octets.specs.Octets.{Octets, weigh}
@@ -92,44 +91,32 @@ half-read r n =
     let w : wordAt (halfOf r) 0 ≡ r .size = word-back (r .size) in
     λ i. record { size = w i; octets = o i }
 
--- a memory of the shape that its type has
-abbrev Shaped : Memory → Type 0
-Shaped m = (length (m .main .octets) ≡ 263) × (length (m .sub .octets) ≡ 263)
-
-module _ (m : Memory) (shape : Shaped m) where
+module _ (m : Memory) (r : Roomy m) where
   block-length : length (blockOf m) ≡ 530
   unfolding blockOf
-  block-length = rw (length-append (halfOf (m .main)) (halfOf (m .sub))) (omega (arith, shape .0, shape .1))
+  block-length = rw (length-append (halfOf (m .main)) (halfOf (m .sub))) (omega (arith, r .main, r .sub))
 
   block-read : memoryIn (blockOf m) ≡ m
   unfolding blockOf
   block-read =
-      let x : take 265 (blockOf m) ≡ halfOf (m .main) = take-at (halfOf (m .main)) (halfOf (m .sub)) 265 (half-length (m .main) (shape .0)) in
-      let y : drop 265 (blockOf m) ≡ halfOf (m .sub) = drop-at (halfOf (m .main)) (halfOf (m .sub)) 265 (half-length (m .main) (shape .0)) in
-      λ i. record { main = (ap rememberedIn x ∙ half-read (m .main) (shape .0)) i; sub = (ap rememberedIn y ∙ half-read (m .sub) (shape .1)) i }
-
-remembering-length : (r : Remembered) (s : List ℕ) → length (r .octets) ≡ 263 → length s ≤ 263 → length (remembering r s .octets) ≡ 263
-unfolding remembering
-remembering-length r s n k = rw (laid-front s (r .octets) (omega arith), length-append s (drop (length s) (r .octets)), length-drop (length s) (r .octets)) (omega arith)
+      let x : take 265 (blockOf m) ≡ halfOf (m .main) = take-at (halfOf (m .main)) (halfOf (m .sub)) 265 (half-length (m .main) (r .main)) in
+      let y : drop 265 (blockOf m) ≡ halfOf (m .sub) = drop-at (halfOf (m .main)) (halfOf (m .sub)) 265 (half-length (m .main) (r .main)) in
+      λ i. record { main = (ap rememberedIn x ∙ half-read (m .main) (r .main)) i; sub = (ap rememberedIn y ∙ half-read (m .sub) (r .sub)) i }
 
 octets-263 : (half : List ℕ) → length half ≡ 265 → length (rememberedIn half .octets) ≡ 263
 octets-263 half n = length-take-le 263 (drop 2 half) (rw length-drop (omega arith))
 
-block-shape : (block : List ℕ) → length block ≡ 530 → Shaped (memoryIn block)
-block-shape block n = (octets-263 (take 265 block) (length-take-le 265 block (omega arith)), octets-263 (drop 265 block) (length-drop 265 block ∙ omega arith))
-
-remembered-shape : (m : Memory) (side : ℕ) (s : List ℕ) → Shaped m → length s ≤ 263 → Shaped (rememberedOn m side s)
-unfolding rememberedOn
-remembered-shape m side s (a, b) l = by-cases (eqb side 0) (λ e. rw e (remembering-length (m .main) s a l, b)) (λ e. rw e (a, remembering-length (m .sub) s b l))
+block-roomy : (block : List ℕ) → length block ≡ 530 → Roomy (memoryIn block)
+block-roomy block n = record { main = octets-263 (take 265 block) (length-take-le 265 block (omega arith)); sub = octets-263 (drop 265 block) (length-drop 265 block ∙ omega arith) }
 
 -- what a side recalls after a frame was put into its place
-recalls-put : (m : Memory) (side : ℕ) (s : List ℕ) → side < 2 → Shaped m → length s ≤ 263 → recalled (sideOf (rememberedOn m side s) side) ≡ s
-recalls-put m side s h (a, b) l =
-    by-cases (eqb side 0) (λ e. rw (eqb-true side 0 e) (remembers-main m s a l .0))
+recalls-put : (m : Memory) (side : ℕ) (s : List ℕ) → side < 2 → Roomy m → length s ≤ 263 → recalled (sideOf (rememberedOn m side s) side) ≡ s
+recalls-put m side s h r l =
+    by-cases (eqb side 0) (λ e. rw (eqb-true side 0 e) (remembers-main m s (r .main) l .0))
     (λ e.
     let d : side ≡ 0 → ⊥ = eqb-false side 0 e in
     let one : side ≡ 1 = omega (arith, d) in
-    rw one (remembers-sub m s b l .0))
+    rw one (remembers-sub m s (r .sub) l .0))
 
 -- an accepted step: settings and memory have their sizes, and a frame was heard
 record Accepted (right : Bool) (h : Heard) : Type 0 where
@@ -201,26 +188,26 @@ module _ {right : Bool} {k : Coupler} {block s room : List ℕ} {answer : ℕ} {
 
   -- with settings and memory of the right size, the block that is left holds the memory that the step inside leaves
   module _ (a : right ≡ true) where
-    after-shape : Shaped (memoryAfter k (memoryIn block) s (heard k s (length room)))
-    after-shape = go (heard k s (length room)) refl
+    after-roomy : Roomy (memoryAfter k (memoryIn block) s (heard k s (length room)))
+    after-roomy = go (heard k s (length room)) refl
       where
-        shape : Shaped (memoryIn block)
-        shape = block-shape block (lent a)
+        before : Roomy (memoryIn block)
+        before = block-roomy block (lent a)
 
-        go : (h : Heard) → heard k s (length room) ≡ h → Shaped (memoryAfter k (memoryIn block) s h)
-        go (nothing r) e = shape
+        go : (h : Heard) → heard k s (length room) ≡ h → Roomy (memoryAfter k (memoryIn block) s h)
+        go (nothing r) e = before
         go (frame m p) e =
-            by-cases (fromIp k) (λ f. rw f shape) (λ f. rw f (remembered-shape (memoryIn block) (k .setting .side) s shape (heard-size k s (length room) m p os e f)))
+            by-cases (fromIp k) (λ f. rw f before) (λ f. rw f (remembered-roomy (memoryIn block) (k .setting .side) s before (heard-size k s (length room) m p os e f)))
 
     put : block′ ≡ blockOf (memoryAfter k (memoryIn block) s (heard k s (length room)))
     unfolding heardThrough
     put = w .memory ∙ rw a
 
     pub step-size : length block′ ≡ 530
-    step-size = ap length put ∙ block-length (memoryAfter k (memoryIn block) s (heard k s (length room))) after-shape
+    step-size = ap length put ∙ block-length (memoryAfter k (memoryIn block) s (heard k s (length room))) after-roomy
 
     memory-read : memoryIn block′ ≡ memoryAfter k (memoryIn block) s (heard k s (length room))
-    memory-read = ap memoryIn put ∙ block-read (memoryAfter k (memoryIn block) s (heard k s (length room))) after-shape
+    memory-read = ap memoryIn put ∙ block-read (memoryAfter k (memoryIn block) s (heard k s (length room))) after-roomy
 
     -- and answer and room are that step's
     pub step-inside : Did k (memoryIn block) s room (outcomeIn answer) (memoryIn block′) room′
@@ -245,7 +232,7 @@ module _ {right : Bool} {k : Coupler} {block s room : List ℕ} {answer : ℕ} {
       let x = kept z f in
       let n : length block′ ≡ 530 = step-size (x .set) in
       let m : memoryIn block′ ≡ rememberedOn (memoryIn block) (k .setting .side) s = memory-read (x .set) ∙ x .held in
-      let r = recalls-put (memoryIn block) (k .setting .side) s (x .side) (block-shape block (lent (x .set))) (x .fits) in
+      let r = recalls-put (memoryIn block) (k .setting .side) s (x .side) (block-roomy block (lent (x .set))) (x .fits) in
       let size : ℕ = rememberedSize block′ (k .setting .side) in
       let from : List ℕ = drop (rememberedStart (k .setting .side)) block′ in
       let e : take size from ≡ s = remembered-is block′ (k .setting .side) n (x .side) ∙ ap (λ (y : Memory). recalled (sideOf y (k .setting .side))) m ∙ r in

@@ -10,6 +10,7 @@ use native.Mathlib.Omega.{arith}
 use lib.Dec.{eqb}
 use lib.ListN.{length, length-replicate}
 use borrow.Author.Tests.{eqb-true, eqb-false, ne-eqb, not-true}
+use Rattle.coupler.proofs.Promised.{Roomy}
 use Rattle.coupler.proofs.Repetition.{Agrees}
 use Rattle.coupler.specs.Memory.{kept, recalled, zeros, noMemory, sideOf}
 use Rattle.coupler.specs.Series.{Input, Done, Follows, isAcceptedFrom, lastAccepted}
@@ -23,7 +24,7 @@ use Rattle.tp1.proofs.LayoutLaws.{length-octets}
 use Rattle.promises.proofs.Demand2.{IsFrame}
 use Rattle.promises.proofs.Heard.{IsFrameOn, Hears, hears-side}
 use Rattle.promises.proofs.Repetition.{Accepts, Stopped, Survives, is-frame, stopped-exactly, agreeing-stopped, differing-forwarded, SentAgain, IsAnother, again-exactly, another-survives}
-use Rattle.promises.proofs.Step.{rememberedBy, StepEnds, accepts, refuses, step-ends, accepts-exactly, Roomy, otherSide, Remembers, remembers-the-frame}
+use Rattle.promises.proofs.Step.{rememberedBy, StepEnds, accepts, refuses, step-ends, accepts-exactly, otherSide, Remembers, remembers-the-frame}
 
 -- "at the start none"
 

@@ -9,7 +9,7 @@ use mathlib.Core.Path.{_≡_, refl, sym, ap, _∙_, subst}
 use lib.ListN.{length}
 use Rattle.coupler.proofs.Apart.{frame-nothing, frame-one, nothing-one}
 use Rattle.coupler.proofs.Answers.{acknowledgement-apart}
-use Rattle.coupler.proofs.Promised.{Forwardable, forwardable-iff}
+use Rattle.coupler.proofs.Promised.{Forwardable, forwardable-iff, Roomy}
 use Rattle.coupler.proofs.Repetition.{Agrees, repeated, repetition-iff, frame-repeats}
 use Rattle.coupler.specs.Memory.{isRepetition}
 use Rattle.coupler.specs.Step.{Coupler, stepTests, fromIp, heard, frame, nothing, kindOf, isForItself, isLetThrough, isAllowed, forwardedOctets, Did, acknowledgementNumber}
@@ -24,7 +24,7 @@ use Rattle.octets.specs.Room.{over}
 use Rattle.tp1.specs.Layout.{tp1Octets}
 use Rattle.promises.proofs.Demand2.{IsFrame}
 use Rattle.promises.proofs.Heard.{IsFrameOn, Hears, hears-iff, refuses-iff}
-use Rattle.promises.proofs.Step.{rememberedBy, Earns, Draws, Refuses, StepEnds, accepts, refuses, step-ends, forwards-exactly, Roomy, remembers-the-frame, own-never-passes}
+use Rattle.promises.proofs.Step.{rememberedBy, Earns, Draws, Refuses, StepEnds, accepts, refuses, step-ends, forwards-exactly, remembers-the-frame, own-never-passes}
 
 -- a step that accepts a frame from TP1
 pub record Accepts (k : Coupler) (m : Memory) (s room : List ℕ) (x : Meaning) (p : List ℕ) (o : Outcome) (m′ : Memory) (room′ : List ℕ) : Type 0 where

@@ -12,11 +12,10 @@ use lib.ListN.{length}
 use borrow.Author.Tests.{eqb-true, eqb-false, ne-eqb}
 use Rattle.coupler.proofs.Answers.{acknowledgement-apart}
 use Rattle.coupler.proofs.Apart.{frame-nothing}
-use Rattle.coupler.proofs.Promised.{Forwardable, forwardable-iff, forwarded-iff, acknowledged-iff, remembers-main, remembers-sub}
+use Rattle.coupler.proofs.Promised.{Forwardable, forwardable-iff, forwarded-iff, acknowledged-iff, remembers-main, remembers-sub, Roomy, remembered-roomy}
 use Rattle.coupler.proofs.Refusals.{number-iff}
 use Rattle.coupler.proofs.StepLaws.{forwarded-ranged, heard-size}
-use Rattle.coupler.specs.Memory.{recalled, remembering, sideOf, rememberedOn}
-use Rattle.octets.proofs.Room.{laid-length}
+use Rattle.coupler.specs.Memory.{recalled, sideOf, rememberedOn}
 use Rattle.octets.proofs.Truth.{never}
 use Rattle.passing.specs.Passing.{isOwn, mayPass}
 use Rattle.coupler.specs.Step.{Coupler, stepTests, fromIp, toIp, Heard, frame, nothing, heard, isForItself, isAllowed, repeats, isForwarded, acknowledgementBy, forwardedMeaning, indication, formOf, forwardedOctets, refusedOutcome, outcomeBy, sentBy, memoryAfter, Did, acknowledgementNumber}
@@ -243,11 +242,6 @@ module _ (k : Coupler) (m m′ : Memory) (s room room′ : List ℕ) (o : Outcom
 
 -- "Afterwards the accepted frame is the remembered one": what its side then recalls is the octets received, and the other side is as it was
 
--- a memory as its type has it: room for the largest frame on either side
-pub record Roomy (m : Memory) : Type 0 where
-  pub main : length (m .main .octets) ≡ 263
-  pub sub : length (m .sub .octets) ≡ 263
-
 abbrev pub otherSide : ℕ → ℕ
 otherSide side = 1 - side
 
@@ -257,14 +251,13 @@ pub record Remembers (m m′ : Memory) (side : ℕ) (s : List ℕ) : Type 0 wher
   pub roomy : Roomy m′
 
 remembers-on : (m : Memory) (side : ℕ) (s : List ℕ) → Roomy m → length s ≤ 263 → side < 2 → Remembers m (rememberedOn m side s) side s
-unfolding rememberedOn remembering
 remembers-on m side s w h b = go (eqb side 0) refl
   where
     main : Remembers m (rememberedOn m 0 s) 0 s
-    main = let e = remembers-main m s (w .main) h in record { received = e .0; other = e .1; roomy = record { main = laid-length s 0 (m .main .octets) (omega (arith, w .main)) ∙ w .main; sub = w .sub } }
+    main = let e = remembers-main m s (w .main) h in record { received = e .0; other = e .1; roomy = remembered-roomy m 0 s w h }
 
     sub : Remembers m (rememberedOn m 1 s) 1 s
-    sub = let e = remembers-sub m s (w .sub) h in record { received = e .0; other = e .1; roomy = record { main = w .main; sub = laid-length s 0 (m .sub .octets) (omega (arith, w .sub)) ∙ w .sub } }
+    sub = let e = remembers-sub m s (w .sub) h in record { received = e .0; other = e .1; roomy = remembered-roomy m 1 s w h }
 
     go : (c : Bool) → eqb side 0 ≡ c → Remembers m (rememberedOn m side s) side s
     go true e = subst (λ (n : ℕ). Remembers m (rememberedOn m n s) n s) (sym (eqb-true side 0 e)) main
