@@ -42,7 +42,8 @@ Follows m [] (d ∷ ds) = ⊥
 Follows m (i ∷ is) [] = ⊥
 Follows m (i ∷ is) (d ∷ ds) = Did (i .coupler) m (i .octets) (i .room) (d .outcome) (d .memory) (d .room) × Follows (d .memory) is ds
 
--- "the last accepted frame that was received from it", as inputs and answers tell it: a step accepts a frame from a TP1 side if its number is 0
+-- "the last accepted frame that was received from it", as inputs and answers tell it: a step has accepted a frame from a TP1 side if its number
+-- is 0, and it came by TP1 and from that side
 abbrev pub isAcceptedFrom : ℕ → Input → Done → Bool
 isAcceptedFrom side i d = eqb (d .outcome .number) 0 && (not (fromIp (i .coupler)) && eqb (i .coupler .setting .side) side)
 

@@ -106,7 +106,7 @@ module _ (m : Memory) (r : Roomy m) where
 octets-263 : (half : List ℕ) → length half ≡ 265 → length (rememberedIn half .octets) ≡ 263
 octets-263 half n = length-take-le 263 (drop 2 half) (rw length-drop (omega arith))
 
-block-roomy : (block : List ℕ) → length block ≡ 530 → Roomy (memoryIn block)
+pub block-roomy : (block : List ℕ) → length block ≡ 530 → Roomy (memoryIn block)
 block-roomy block n = record { main = octets-263 (take 265 block) (length-take-le 265 block (omega arith)); sub = octets-263 (drop 265 block) (length-drop 265 block ∙ omega arith) }
 
 -- what a side recalls after a frame was put into its place

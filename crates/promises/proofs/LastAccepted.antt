@@ -37,12 +37,12 @@ unfolding recalled kept
 none-recalled side = by-cases (eqb side 0) (λ e. rw e refl) (λ e. rw e refl)
 
 -- what each side remembers after a step, in a memory as its type has it
-record AfterStep (m : Memory) (i : Input) (d : Done) : Type 0 where
-  roomy : Roomy (d .memory)
-  recalls : (side : ℕ) → side < 2 → recalled (sideOf (d .memory) side) ≡ cond (isAcceptedFrom side i d) (i .octets) (recalled (sideOf m side))
+pub record AfterStep (m : Memory) (i : Input) (d : Done) : Type 0 where
+  pub roomy : Roomy (d .memory)
+  pub recalls : (side : ℕ) → side < 2 → recalled (sideOf (d .memory) side) ≡ cond (isAcceptedFrom side i d) (i .octets) (recalled (sideOf m side))
 
 module _ (m : Memory) (i : Input) (d : Done) where
-  unchanged : Roomy m → d .memory ≡ m → ((side : ℕ) → isAcceptedFrom side i d ≡ false) → AfterStep m i d
+  pub unchanged : Roomy m → d .memory ≡ m → ((side : ℕ) → isAcceptedFrom side i d ≡ false) → AfterStep m i d
   unchanged y e n = record { roomy = subst Roomy (sym e) y; recalls = λ side b. rw (n side, e) refl }
 
   remembered : d .outcome .number ≡ 0 → fromIp (i .coupler) ≡ false → i .coupler .setting .side < 2 → Remembers m (d .memory) (i .coupler .setting .side) (i .octets) → AfterStep m i d
@@ -60,7 +60,7 @@ module _ (m : Memory) (i : Input) (d : Done) where
           let other : otherSide own ≡ side = omega arith in
           rw (z, e, differ) (ap recalled (subst (λ (n : ℕ). sideOf (d .memory) n ≡ sideOf m n) other (r .other))))
 
-  after-step : Roomy m → Octets (i .octets) → Did (i .coupler) m (i .octets) (i .room) (d .outcome) (d .memory) (d .room) → AfterStep m i d
+  pub after-step : Roomy m → Octets (i .octets) → Did (i .coupler) m (i .octets) (i .room) (d .outcome) (d .memory) (d .room) → AfterStep m i d
   after-step y c f = go (step-ends (i .coupler) m (i .octets) (i .room) (d .outcome) (d .memory) (d .room) c f)
     where
       go : StepEnds (i .coupler) m (i .octets) (i .room) (d .outcome) (d .memory) (d .room) → AfterStep m i d
@@ -76,10 +76,17 @@ AllOctets [] = Unit {0}
 AllOctets (i ∷ is) = Octets (i .octets) × AllOctets is
 
 -- the last step of a series, and the memory that those before it left
-record Last (m : Memory) (is : List Input) (ds : List Done) (i : Input) (d : Done) : Type 0 where
-  memory : Memory
-  recalls : (side : ℕ) → side < 2 → recalled (sideOf memory side) ≡ lastAccepted side (recalled (sideOf m side)) is ds
-  did : Did (i .coupler) memory (i .octets) (i .room) (d .outcome) (d .memory) (d .room)
+pub record Last (m : Memory) (is : List Input) (ds : List Done) (i : Input) (d : Done) : Type 0 where
+  pub memory : Memory
+  pub recalls : (side : ℕ) → side < 2 → recalled (sideOf memory side) ≡ lastAccepted side (recalled (sideOf m side)) is ds
+  pub did : Did (i .coupler) memory (i .octets) (i .room) (d .outcome) (d .memory) (d .room)
+
+pub one-more : {m : Memory} {is : List Input} {ds : List Done} {i : Input} {d : Done} (j : Input) (e : Done) → AfterStep m j e → Last (e .memory) is ds i d → Last m (j ∷ is) (e ∷ ds) i d
+one-more {is = is} {ds} j e then rest = record {
+  memory = rest .memory;
+  recalls = λ side b. rest .recalls side b ∙ ap (λ (l : List ℕ). lastAccepted side l is ds) (then .recalls side b);
+  did = rest .did;
+}
 
 last-of : (m : Memory) (is : List Input) (ds : List Done) (i : Input) (d : Done) → Roomy m → AllOctets is → Follows m (is ++ (i ∷ [])) (ds ++ (d ∷ [])) → Last m is ds i d
 last-of m [] [] i d r c f = record { memory = m; recalls = λ side b. refl; did = f .0 }
@@ -89,12 +96,31 @@ last-of m (j ∷ []) [] i d r c f = absurd (f .1)
 last-of m (j ∷ l ∷ is) [] i d r c f = absurd (f .1)
 last-of m (j ∷ is) (e ∷ ds) i d r c f =
     let then = after-step m j e r (c .0) (f .0) in
-    let rest = last-of (e .memory) is ds i d (then .roomy) (c .1) (f .1) in
-    record {
-      memory = rest .memory;
-      recalls = λ side b. rest .recalls side b ∙ ap (λ (l : List ℕ). lastAccepted side l is ds) (then .recalls side b);
-      did = rest .did;
-    }
+    one-more j e then (last-of (e .memory) is ds i d (then .roomy) (c .1) (f .1))
+
+-- what was accepted last before a step, from the side that it hears; no octets if nothing was
+abbrev pub precedingBy : Input → List Input → List Done → List ℕ
+precedingBy i is ds = lastAccepted (i .coupler .setting .side) [] is ds
+
+-- it hears a frame from TP1 that address, codes and count let through: what was accepted last decides
+module _ {is : List Input} {ds : List Done} {i : Input} {d : Done} (own : Octets (i .octets)) (last : Last noMemory is ds i d) {x : Meaning} {p : List ℕ}
+    (on-tp1 : fromIp (i .coupler) ≡ false) (h : Hears (i .coupler) (i .octets) (length (i .room)) x p) (allowed : isAllowed (i .coupler) x ≡ true) where
+  pub last-step : Accepts (i .coupler) (last .memory) (i .octets) (i .room) x p (d .outcome) (d .memory) (d .room)
+  last-step = record { octets = own; did = last .did; on-tp1 = on-tp1; hears = h }
+
+  pub last-recalls : rememberedBy (i .coupler) (last .memory) ≡ precedingBy i is ds
+  last-recalls =
+      let side = i .coupler .setting .side in
+      last .recalls side (hears-side h) ∙ ap (λ (l : List ℕ). lastAccepted side l is ds) (none-recalled side)
+
+  pub stopped-after : d .outcome .forwarded ≡ 0 ↔ ((x .first ≡ false) × Agrees (precedingBy i is ds) (i .octets))
+  stopped-after = subst (λ (l : List ℕ). d .outcome .forwarded ≡ 0 ↔ ((x .first ≡ false) × Agrees l (i .octets))) last-recalls (stopped-exactly last-step allowed)
+
+  pub acknowledged-after : (x .first ≡ false) × Agrees (precedingBy i is ds) (i .octets) → Stopped (i .room) (d .outcome) (d .room)
+  acknowledged-after (e, g) = agreeing-stopped last-step allowed (e, subst (λ (l : List ℕ). Agrees l (i .octets)) (sym last-recalls) g)
+
+  pub forwarded-after : ((x .first ≡ false) × Agrees (precedingBy i is ds) (i .octets) → ⊥) → Survives (i .coupler) x p (i .room) (d .outcome) (d .room)
+  forwarded-after n = differing-forwarded last-step allowed (λ (e, g). n (e, subst (λ (l : List ℕ). Agrees l (i .octets)) last-recalls g))
 
 -- what a side can have accepted last: nothing, or a frame
 pub data NoneOrFrame (s : List ℕ) : Type 0 where
@@ -122,44 +148,36 @@ module _ (is : List Input) (ds : List Done) (i : Input) (d : Done) (octets : All
   last : Last noMemory is ds i d
   last = last-of noMemory is ds i d none-roomy octets series
 
-  -- what was accepted last, before it, from the side that it hears; no octets if nothing was
   abbrev pub preceding : List ℕ
-  preceding = lastAccepted (i .coupler .setting .side) [] is ds
+  preceding = precedingBy i is ds
 
   pub preceding-is : NoneOrFrame preceding
   preceding-is = last-frame (i .coupler .setting .side) [] noMemory is ds i d octets series (none refl)
 
   -- it hears a frame from TP1 that address, codes and count let through
   module _ {x : Meaning} {p : List ℕ} (on-tp1 : fromIp (i .coupler) ≡ false) (h : Hears (i .coupler) (i .octets) (length (i .room)) x p) (allowed : isAllowed (i .coupler) x ≡ true) where
-    step : Accepts (i .coupler) (last .memory) (i .octets) (i .room) x p (d .outcome) (d .memory) (d .room)
-    step = record { octets = own; did = last .did; on-tp1 = on-tp1; hears = h }
-
-    recalls : rememberedBy (i .coupler) (last .memory) ≡ preceding
-    recalls =
-        let side = i .coupler .setting .side in
-        last .recalls side (hears-side h) ∙ ap (λ (l : List ℕ). lastAccepted side l is ds) (none-recalled side)
-
     -- that is not forwarded exactly if it is marked repeated and agrees with what was accepted last ..
     pub stopped-in-a-series : d .outcome .forwarded ≡ 0 ↔ ((x .first ≡ false) × Agrees preceding (i .octets))
-    stopped-in-a-series = subst (λ (l : List ℕ). d .outcome .forwarded ≡ 0 ↔ ((x .first ≡ false) × Agrees l (i .octets))) recalls (stopped-exactly step allowed)
+    stopped-in-a-series = stopped-after own last on-tp1 h allowed
 
     -- .. which is then acknowledged all the same, and the room stays ..
     pub acknowledged-in-a-series : (x .first ≡ false) × Agrees preceding (i .octets) → Stopped (i .room) (d .outcome) (d .room)
-    acknowledged-in-a-series (e, g) = agreeing-stopped step allowed (e, subst (λ (l : List ℕ). Agrees l (i .octets)) (sym recalls) g)
+    acknowledged-in-a-series = acknowledged-after own last on-tp1 h allowed
 
     -- .. and any other is acknowledged and forwarded
     pub forwarded-in-a-series : ((x .first ≡ false) × Agrees preceding (i .octets) → ⊥) → Survives (i .coupler) x p (i .room) (d .outcome) (d .room)
-    forwarded-in-a-series n = differing-forwarded step allowed (λ (e, g). n (e, subst (λ (l : List ℕ). Agrees l (i .octets)) recalls g))
+    forwarded-in-a-series = forwarded-after own last on-tp1 h allowed
 
     -- "at the start none": where nothing was accepted yet from its side, nothing is a repetition
     pub first-from-its-side : preceding ≡ [] → Survives (i .coupler) x p (i .room) (d .outcome) (d .room)
-    first-from-its-side e = forwarded-in-a-series (λ (first, g). let f = is-frame step in omega (arith, ap length e, g .number, ap length (f .layout), length-octets x p))
+    first-from-its-side e =
+        forwarded-in-a-series (λ (first, g). let f = is-frame (last-step own last on-tp1 h allowed) in omega (arith, ap length e, g .number, ap length (f .layout), length-octets x p))
 
     -- where a frame was, the next is stopped exactly if it is that one sent again, whatever came between and was refused, or was heard from the
     -- other side; and the repeat of another, as of the customer's second telegram, is forwarded
     module _ {y : Meaning} {q : List ℕ} (before : IsFrame preceding y q) where
       pub again-in-a-series : d .outcome .forwarded ≡ 0 ↔ SentAgain y q x p
-      again-in-a-series = again-exactly preceding before recalls step allowed
+      again-in-a-series = again-exactly preceding before (last-recalls own last on-tp1 h allowed) (last-step own last on-tp1 h allowed) allowed
 
       pub increment-survives-in-a-series : IsAnother y q x p → Survives (i .coupler) x p (i .room) (d .outcome) (d .room)
-      increment-survives-in-a-series n = another-survives preceding before recalls step n allowed
+      increment-survives-in-a-series n = another-survives preceding before (last-recalls own last on-tp1 h allowed) (last-step own last on-tp1 h allowed) n allowed
