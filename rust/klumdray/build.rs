@@ -1,6 +1,6 @@
 //! Links the proved library, libklumdray.a, from the folder that KLUMDRAY_LIBRARY names: a path, and
-//! a relative one is taken from the root of this repository. Without it the folder is target/staticlib
-//! on x86-64, where `rt staticlib klumdray` writes the library, and elsewhere target/emulated, whose
+//! a relative one is taken from the root of this repository. Without it the folder is target/x86-64 on
+//! x86-64, where `tools/library-for x86-64` writes the library, and elsewhere target/emulated, whose
 //! library `tools/emulate-library` puts in front of that one, for tests. An archive for another machine
 //! than cargo builds for is refused. `cargo build -vv` shows which one was found.
 
@@ -52,15 +52,9 @@ impl Wanted {
         }
     }
 
-    /// Where the library is without a name, and what makes it.
-    fn own(&self) -> (&'static str, &'static str) {
-        match self.arch.as_str() {
-            "x86_64" => ("target/staticlib", "rt staticlib klumdray"),
-            _ => (
-                "target/emulated",
-                "rt staticlib klumdray && tools/emulate-library",
-            ),
-        }
+    /// Whether the library that the tests of this repository run is code for what cargo builds for.
+    fn is_native(&self) -> bool {
+        self.arch == "x86_64"
     }
 
     /// The folder that the library is looked for in.
@@ -69,7 +63,8 @@ impl Wanted {
         let root = package.ancestors().nth(2).unwrap_or(&package);
         match &self.named {
             Some(named) => root.join(named),
-            None => root.join(self.own().0),
+            None if self.is_native() => root.join("target/x86-64"),
+            None => root.join("target/emulated"),
         }
     }
 
@@ -108,13 +103,11 @@ impl Wanted {
             }
             None => format!("`tools/library-for` makes none for {target}"),
         };
-        match self.named {
-            Some(_) => made,
-            None => format!(
-                "{made}, and `{}` the one for this repository's tests",
-                self.own().1
-            ),
+        if self.named.is_some() || self.is_native() {
+            return made;
         }
+        let emulated = "tools/library-for x86-64 && tools/emulate-library";
+        format!("{made}, and `{emulated}` the one for this repository's tests")
     }
 }
 

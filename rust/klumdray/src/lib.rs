@@ -32,8 +32,8 @@ pub use meaning::Meaning;
 pub use refusal::Refusal;
 
 /// Which build of the proved library is linked: the last part of the path of the folder that it lies
-/// in. In its repository that is `staticlib` on x86-64 and `emulated` elsewhere, `native` for
-/// benchmarks there.
+/// in. In its repository that is `x86-64` on such a machine, and elsewhere `emulated`, but the
+/// machine's own, as `aarch64`, for benchmarks.
 pub const LINKED: &str = env!("KLUMDRAY_LINKED");
 
 /// The check octet: the ones' complement of the exclusive or of all octets given.
