@@ -16,7 +16,8 @@
  * may be made from several threads.
  *
  * Apart. What is lent to be written must not overlap anything else lent to the same call: what the
- * proof says of a call it says of slices that lie apart. Each call that writes and is lent two
+ * proof says of a call it says of slices that lie apart, and the library is compiled for no others
+ * (each pointer without const is noalias, C's restrict). Each call that writes and is lent two
  * slices or more has a checked form, named by "_checked" behind its name: the same call, which
  * first refuses an overlap by 14.
  *
