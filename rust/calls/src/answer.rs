@@ -1,13 +1,14 @@
 //! The reference's answers, as the numbers and blocks of octets that include/klumdray.h documents.
 
 use crate::call::{Call, Function};
-use reference::cemi::{self, Code};
-use reference::coupler::{self, Acknowledgement, Coupler, Memory, Outcome, Remembered, Side};
+use packed::{packed_message, packed_outcome, packed_size, packed_tp1, packed_trace, packed_why};
+use reference::coupler::{self, Coupler, Memory, Outcome, Remembered};
 use reference::refusal::RANGE;
 use reference::site::Site;
-use reference::tracer::{self, Query, Stop, Traced};
-use reference::{routing, tp1, Format, Given, Meaning};
+use reference::tracer::{self, Query, Stop};
+use reference::{cemi, routing, tp1, Given};
 
+mod packed;
 pub mod tunnelling;
 
 pub const SETTINGS_SIZE: usize = 10;
@@ -34,10 +35,7 @@ impl Answer {
 fn number(function: Function, numbers: &[u32], slices: &[&[u8]], rooms: &mut [Vec<u8>]) -> u64 {
     match (function, numbers, slices, rooms) {
         (Function::CheckOctet, [], &[octets], []) => reference::check_octet(octets).into(),
-        (Function::Tp1Read, [], &[octets], []) => {
-            let frame = tp1::read(octets);
-            packed(frame.map(|it| packed_meaning(&it.meaning, it.payload)))
-        }
+        (Function::Tp1Read, [], &[octets], []) => packed_tp1(tp1::read(octets)),
         (Function::CemiRead, [], &[octets], []) => packed_message(cemi::read(octets)),
         (Function::RoutingRead, [], &[octets], []) => packed_message(routing::read(octets)),
         (Function::Tp1Write, numbers, &[payload], [room]) => {
@@ -170,61 +168,4 @@ fn put_part(octets: &mut [u8], remembered: &Remembered) {
     let frame = remembered.frame().expect("a frame that a step remembered");
     octets[..2].copy_from_slice(&(frame.len() as u16).to_be_bytes());
     octets[2..][..frame.len()].copy_from_slice(frame);
-}
-
-/// "With a refusal every bit above 7 is 0."
-fn packed(answer: Result<u64, u8>) -> u64 {
-    answer.unwrap_or_else(u64::from)
-}
-
-fn packed_meaning(meaning: &Meaning, payload: &[u8]) -> u64 {
-    u64::from(meaning.format == Format::Extended) << 8
-        | u64::from(meaning.first_sending) << 9
-        | u64::from(meaning.priority) << 10
-        | u64::from(meaning.group) << 12
-        | u64::from(meaning.count) << 13
-        | u64::from(meaning.source) << 16
-        | u64::from(meaning.destination) << 32
-        | (payload.len() as u64) << 48
-}
-
-fn packed_message(message: Result<cemi::Frame<'_>, u8>) -> u64 {
-    packed(message.map(|it| packed_frame(&it)))
-}
-
-fn packed_frame(frame: &cemi::Frame<'_>) -> u64 {
-    let code = match frame.code {
-        Code::Request => 1,
-        Code::Confirmation => 2,
-        Code::Indication => 3,
-    };
-    // "error mark, in a confirmation only"
-    let mark = u64::from(frame.error_mark);
-    packed_meaning(&frame.meaning, frame.payload) | code << 56 | mark << 58
-}
-
-fn packed_size(written: Result<usize, u8>) -> u64 {
-    packed(written.map(|size| (size as u64) << 8))
-}
-
-fn packed_outcome(outcome: Outcome) -> u64 {
-    u64::from(outcome.number)
-        | u64::from(outcome.acknowledgement.map_or(0, Acknowledgement::octet)) << 8
-        | u64::from(outcome.own) << 16
-        | (outcome.forwarded as u64) << 32
-}
-
-fn packed_trace(traced: Result<Traced, u8>) -> u64 {
-    packed(traced.map(|it| (it.listed as u64) << 8 | (it.forwardings as u64) << 24))
-}
-
-fn packed_why(why: Result<Option<Stop>, u8>) -> u32 {
-    match why {
-        Ok(None) => 0,
-        Ok(Some(Stop { line, from, reason })) => {
-            let direction = u32::from(from == Side::Sub);
-            (reason as u32 + 1) << 8 | u32::from(line) << 16 | direction << 24
-        }
-        Err(number) => number.into(),
-    }
 }

@@ -1,6 +1,7 @@
 //! The reference's answers of tunnelling, over channels in a lent block.
 
-use super::{given, octet, packed, packed_frame, packed_message, packed_size, whole_octet};
+use super::packed::{packed, packed_message, packed_raising, packed_receipt, packed_size};
+use super::{given, octet, whole_octet};
 use crate::call::Function;
 use reference::refusal::RANGE;
 use reference::tunnelling::{self, Acknowledgement, Channel, Table, CHANNELS};
@@ -26,16 +27,13 @@ pub fn number(function: Function, numbers: &[u32], slices: &[&[u8]], rooms: &mut
             packed_size(write_acknowledgement([channel, counter, status], room))
         }
         (Function::TunnellingReceive, [], &[octets], [channels, room]) => {
-            let received = on_channels(channels, |table| table.receive(octets, room));
-            // "if it is acknowledged again every bit is 0"
-            packed(received.map(|frame| frame.map_or(0, |frame| packed_frame(&frame))))
+            packed_receipt(on_channels(channels, |table| table.receive(octets, room)))
         }
         (Function::TunnellingSend, numbers, &[channels, payload], [room]) => {
             packed_size(send(channels, numbers, payload, room))
         }
         (Function::TunnellingConfirm, [], &[octets], [channels]) => {
-            let raised = on_channels(channels, |table| table.confirm(octets));
-            packed(raised.map(|is_raised| u64::from(is_raised) << 8))
+            packed_raising(on_channels(channels, |table| table.confirm(octets)))
         }
         _ => panic!("{function:?} has other arguments"),
     }
