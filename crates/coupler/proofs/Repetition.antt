@@ -6,13 +6,12 @@ use mathlib.Core.Bool.{Bool, true, false, cond, not, _&&_}
 use mathlib.Core.List.{List, [], _∷_, _++_}
 use mathlib.Core.Logic.{_↔_}
 use mathlib.Core.Path.{_≡_, refl, sym, ap, _∙_, subst}
-use native.Mathlib.Numerals.{add-one}
 use native.Mathlib.Omega.{arith}
 use lib.Dec.{eqb}
 use lib.ListN.{length, take, drop, length-append}
-use lib.Seq.{length-take-le, drop-cons, getD-take, ext-getD, take-at}
+use lib.Seq.{length-take-le, getD-take, ext-getD, take-at}
 use borrow.Author.Tests.{eq-eqb, ne-eqb, eqb-true, not-true}
-use Rattle.octets.proofs.Truth.{never, and-true, and-yes}
+use Rattle.octets.proofs.Truth.{never, and-true, and-yes, one-truth}
 use Rattle.octets.specs.Octets.{octetAt, weigh}
 use Rattle.octets.specs.Check.{checkOctet}
 use Rattle.frame.specs.Fields.{controlOf, ctrleOf, fieldsOf}
@@ -30,43 +29,20 @@ pub agree-length : (a b : List ℕ) → (length a ≡ length b → ⊥) → fals
 unfolding agree
 agree-length a b n = rw (ne-eqb (length a) (length b) n) refl
 
--- what is left to compare from an index on
-abbrev pub left : List ℕ → ℕ → List ℕ
-left s at = take (length s - 1 - at) (drop at s)
+-- of a frame's octets those behind the control octet and before the check octet
+abbrev pub between : List ℕ → List ℕ
+between s = take (length s - 1 - 1) (drop 1 s)
 
--- at the start the control octets are compared, and what is behind them is left
-pub agree-begins : (a b : List ℕ) → length a ≡ length b → eqb (unmarked (octetAt a 0)) (unmarked (octetAt b 0)) && same (left a 1) (left b 1) ≡ agree a b
+-- the control octets agree, and so does what is between
+agree-parts : (a b : List ℕ) → length a ≡ length b → eqb (unmarked (octetAt a 0)) (unmarked (octetAt b 0)) && same (between a) (between b) ≡ agree a b
 unfolding agree
-agree-begins [] [] e = rw (eq-eqb (unmarked 0) (unmarked 0) refl) refl
-agree-begins [] (y ∷ ys) e = absurd (omega (arith, e))
-agree-begins (x ∷ xs) [] e = absurd (omega (arith, e))
-agree-begins (x ∷ xs) (y ∷ ys) e = rw (eq-eqb (length (x ∷ xs)) (length (y ∷ ys)) e, behind xs, behind ys) refl
+agree-parts [] [] e = rw (eq-eqb (unmarked 0) (unmarked 0) refl) refl
+agree-parts [] (y ∷ ys) e = absurd (omega (arith, e))
+agree-parts (x ∷ xs) [] e = absurd (omega (arith, e))
+agree-parts (x ∷ xs) (y ∷ ys) e = rw (eq-eqb (length (x ∷ xs)) (length (y ∷ ys)) e, behind xs, behind ys) refl
   where
     behind : (os : List ℕ) → suc (length os) - 1 - 1 ≡ length os - 1
     behind os = omega arith
-
--- one octet more
-pub agree-goes-on : (a b : List ℕ) (at : ℕ) (so-far : Bool) → at + 1 < length a → length a ≡ length b → so-far && same (left a at) (left b at) ≡ agree a b
-    → (so-far && eqb (octetAt a at) (octetAt b at)) && same (left a (at + 1)) (left b (at + 1)) ≡ agree a b
-agree-goes-on a b at so-far h e z =
-    and-then so-far (eqb (octetAt a at) (octetAt b at)) (same (left a (at + 1)) (left b (at + 1)))
-    ∙ sym (ap (λ (t : Bool). so-far && t) (rw (left-more a at h, left-more b at (omega (arith, e))) refl))
-    ∙ z
-  where
-    and-then : (p q r : Bool) → (p && q) && r ≡ p && (q && r)
-    and-then true q r = refl
-    and-then false q r = refl
-
-    left-more : (s : List ℕ) (at : ℕ) → at + 1 < length s → left s at ≡ octetAt s at ∷ left s (at + 1)
-    left-more s at h =
-        let n : length s - 1 - at ≡ suc (length s - 1 - (at + 1)) = omega arith in
-        rw (n, drop-cons s at 0 (omega arith), add-one) refl
-
--- at the end nothing is left
-pub agree-ends : (a b : List ℕ) (at : ℕ) (so-far : Bool) → length a - 1 - at ≡ 0 → length a ≡ length b → so-far && same (left a at) (left b at) ≡ agree a b → so-far ≡ agree a b
-agree-ends a b at so-far h e z =
-    let k : length b - 1 - at ≡ 0 = omega (arith, e) in
-    sym (and-yes so-far) ∙ (rw (h, k) at z)
 
 -- what agreement is
 
@@ -84,6 +60,18 @@ same-iff a b = (to a b, λ e. subst (λ (l : List ℕ). same a l ≡ true) e (se
     to (o ∷ os) (p ∷ ps) e =
         let q = and-true (eqb o p) (same os ps) e in
         ap (λ (n : ℕ). n ∷ os) (eqb-true o p (q .0)) ∙ ap (λ (l : List ℕ). p ∷ l) (to os ps (q .1))
+
+-- where nothing is between, and where it is told whether that is the same
+pub agree-short : (a b : List ℕ) → length a ≡ length b → length b < 2 → eqb (unmarked (octetAt a 0)) (unmarked (octetAt b 0)) ≡ agree a b
+agree-short a b e h =
+    let k : length a - 1 - 1 ≡ 0 = omega (arith, e) in
+    let l : length b - 1 - 1 ≡ 0 = omega arith in
+    sym (and-yes (eqb (unmarked (octetAt a 0)) (unmarked (octetAt b 0)))) ∙ (rw (k, l) at (agree-parts a b e))
+
+pub agree-told : (a b : List ℕ) (r : Bool) → length a ≡ length b → r ≡ true ↔ (take (length b - 1 - 1) (drop 1 a) ≡ between b) → eqb (unmarked (octetAt a 0)) (unmarked (octetAt b 0)) && r ≡ agree a b
+agree-told a b r e f =
+    let told : r ≡ true ↔ (between a ≡ between b) = rw e f in
+    ap (λ (t : Bool). eqb (unmarked (octetAt a 0)) (unmarked (octetAt b 0)) && t) (one-truth r (same (between a) (between b)) told (same-iff (between a) (between b))) ∙ agree-parts a b e
 
 agree-iff : (a b : List ℕ) → agree a b ≡ true ↔ ((length a ≡ length b) × (compared a ≡ compared b))
 unfolding agree

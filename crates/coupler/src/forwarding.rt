@@ -6,7 +6,6 @@ ghost use lib.ListN.{length};
 ghost use Rattle.octets.specs.Room.{over};
 ghost use Rattle.frame.specs.Order.{firstOf};
 ghost use Rattle.frame.specs.Valid.{inRange};
-ghost use Rattle.routing.specs.Reading.{readRouting};
 ghost use Rattle.coupler.specs.Memory.{unmarked, agree, isRepetition};
 ghost use Rattle.coupler.specs.Hearing.{meaningOnly, answerOn, payloadOn};
 ghost use Rattle.coupler.specs.Step.{couplerBy, settingTests, fromIp, readBy, kindOf, isAllowed, acknowledgementBy, forwardedMeaning, formOf, refusedOutcome};
@@ -15,15 +14,12 @@ use crate::Acknowledgement;
 use crate::Outcome;
 use crate::Setting;
 use cemi::CemiAnswer;
-use cemi::Codes;
 use cemi::Message;
 use frame::Meaning;
 use frame::Refusal;
 use frame::Verdict;
 use frame::Written;
 use tp1::Tp1Answer;
-
-const ROUTING_INDICATION: u16 = 0x0530;
 
 // "On a refusal: its number, none, not, 0."
 pub(crate) fn refused(
@@ -184,8 +180,7 @@ fn unmarked(control: u8) -> u8
     control - control / 32 % 2 * 32
 }
 
-// "all octets must agree except the repeat bit and the check octet": compared where they lie, and
-// all of them, so that the compiler takes many at once.
+// "all octets must agree except the repeat bit and the check octet": compared where they lie.
 fn agree(before: &[u8], octets: &[u8]) -> bool
     ensures { λ r. ⌜ r ≡ agree (now (before .entry)) (now (octets .entry)) ⌝ }
 {
@@ -193,13 +188,12 @@ fn agree(before: &[u8], octets: &[u8]) -> bool
         return false;
     }
     let control = unmarked(octets::octet(octets, 0));
-    let mut same = unmarked(octets::octet(before, 0)) == control;
-    let mut at = 1;
-    while at + 1 < octets.len() {
-        same = same & (before[at] == octets[at]);
-        at += 1;
+    let same = unmarked(octets::octet(before, 0)) == control;
+    if octets.len() < 2 {
+        return same;
     }
-    same
+    let last = octets.len() - 1;
+    same & octets::are_same(&before[1..last], &octets[1..last])
 }
 
 fn is_repetition(remembered: &[u8], octets: &[u8]) -> bool
@@ -234,24 +228,12 @@ fn meaning_only(answer: CemiAnswer) -> Tp1Answer
     }
 }
 
-// The two calls that `routing::read` makes. As one call it is too long for the compiler to put in
-// place, and a step from IP takes a third more instructions.
-fn hear_datagram(octets: &[u8]) -> Tp1Answer
-    ensures { λ r. ⌜ r ≡ meaningOnly (readRouting (now (octets .entry))) ⌝ }
-{
-    let header = knxnetip::read_header(octets, ROUTING_INDICATION);
-    match header {
-        Verdict::Refuse(refusal) => Tp1Answer::Refused(refusal),
-        Verdict::Fine => meaning_only(cemi::read(Codes::IndicationOnly, &octets[6..])),
-    }
-}
-
 // What a frame means, or the reader's refusal, whichever medium it came by.
 fn hear(ip: bool, octets: &[u8]) -> Tp1Answer
     ensures { λ r. ⌜ r ≡ answerOn ip (now (octets .entry)) ⌝ }
 {
     if ip {
-        hear_datagram(octets)
+        meaning_only(routing::read(octets))
     } else {
         tp1::read(octets)
     }
@@ -273,7 +255,6 @@ fn payload_of(ip: bool, meaning: Meaning, octets: &[u8]) -> &[u8]
     }
 }
 
-// Heard and passed on by one call for both media, so that the compiler puts it in place.
 pub(crate) fn receive(
     setting: Setting,
     codes: [[u8; 4]; 2],

@@ -74,11 +74,12 @@ among-add m n i s = sym (ap (xorFrom 0) (firsts-add m n i s) ∙ xor-both (first
 pub halves-meet : (s : List ℕ) (all h : ℕ) → lanes all ≡ bitXor (among h 0 s) (among h h s) → lanes all ≡ among (h + h) 0 s
 halves-meet s all h e = e ∙ rw zero-add at (among-add h h 0 s)
 
-module _ (s : List ℕ) (o : Octets s) where
-  abbrev pub fourAt : ℕ → ℕ
-  fourAt i = getD s i 0 + (getD s (i + 1) 0 + (getD s (i + 2) 0 + getD s (i + 3) 0 * 256) * 256) * 256
+-- four octets side by side, the first of them lowest
+abbrev pub fourAt : List ℕ → ℕ → ℕ
+fourAt s i = getD s i 0 + (getD s (i + 1) 0 + (getD s (i + 2) 0 + getD s (i + 3) 0 * 256) * 256) * 256
 
-  lanes-four : (i : ℕ) → lanes (fourAt i) ≡ among 4 i s
+module _ (s : List ℕ) (o : Octets s) where
+  lanes-four : (i : ℕ) → lanes (fourAt s i) ≡ among 4 i s
   lanes-four i =
       let a : i + 1 ≡ suc i = omega arith in
       let b : i + 2 ≡ suc (suc i) = omega arith in
@@ -87,16 +88,16 @@ module _ (s : List ℕ) (o : Octets s) where
       ∙ rw (a, b, c) refl
 
   -- four octets more
-  pub four-more : (all m i : ℕ) → lanes all ≡ among m i s → lanes (bitXor all (fourAt (i + m))) ≡ among (m + 4) i s
-  four-more all m i e = lanes-xor all (fourAt (i + m)) ∙ ap₂ bitXor e (lanes-four (i + m)) ∙ among-add m 4 i s
+  pub four-more : (all m i : ℕ) → lanes all ≡ among m i s → lanes (bitXor all (fourAt s (i + m))) ≡ among (m + 4) i s
+  four-more all m i e = lanes-xor all (fourAt s (i + m)) ∙ ap₂ bitXor e (lanes-four (i + m)) ∙ among-add m 4 i s
 
   -- four more of each half
   pub turn-more : (all t h : ℕ) → lanes all ≡ bitXor (among (t * 4) 0 s) (among (t * 4) h s)
-      → lanes (bitXor all (bitXor (fourAt (t * 4)) (fourAt (h + t * 4)))) ≡ bitXor (among ((t + 1) * 4) 0 s) (among ((t + 1) * 4) h s)
+      → lanes (bitXor all (bitXor (fourAt s (t * 4)) (fourAt s (h + t * 4)))) ≡ bitXor (among ((t + 1) * 4) 0 s) (among ((t + 1) * 4) h s)
   turn-more all t h e =
       let n : (t + 1) * 4 ≡ t * 4 + 4 = omega arith in
-      let x = fourAt (t * 4) in
-      let y = fourAt (h + t * 4) in
+      let x = fourAt s (t * 4) in
+      let y = fourAt s (h + t * 4) in
       lanes-xor all (bitXor x y)
       ∙ ap₂ bitXor e (lanes-xor x y ∙ ap₂ bitXor (lanes-four (t * 4)) (lanes-four (h + t * 4)))
       ∙ xor-swap (among (t * 4) 0 s) (among (t * 4) h s) (among 4 (t * 4) s) (among 4 (h + t * 4) s)

@@ -1,7 +1,8 @@
 -- Laws of truth values, said once for every crate.
 use Prim.Native.Nat.{ℕ}
 use mathlib.Core.Bool.{Bool, true, false, not, _&&_, _||_}
-use mathlib.Core.Path.{_≡_, refl}
+use mathlib.Core.Logic.{_↔_}
+use mathlib.Core.Path.{_≡_, refl, sym}
 use native.Mathlib.Omega.{arith}
 
 pub by-cases : {P : Type 0} (b : Bool) → (b ≡ true → P) → (b ≡ false → P) → P
@@ -42,3 +43,9 @@ or-false false b e = (refl, e)
 pub or-cases : {P : Type 0} (a b : Bool) → a || b ≡ true → (a ≡ true → P) → (b ≡ true → P) → P
 or-cases true b e f g = f refl
 or-cases false b e f g = g e
+
+-- two truths of one thing are one
+pub one-truth : {P : Type 0} (a b : Bool) → a ≡ true ↔ P → b ≡ true ↔ P → a ≡ b
+one-truth a true f g = f .1 (g .0 refl)
+one-truth true false f g = sym (g .1 (f .0 refl))
+one-truth false false f g = refl

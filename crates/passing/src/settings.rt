@@ -49,6 +49,9 @@ pub fn asks_table(codes: [[u8; 4]; 2]) -> bool
 pub fn table_fits(codes: [[u8; 4]; 2], size: usize) -> bool
     ensures { λ r. ⌜ r ≡ tableFits codes size ⌝ }
 {
-    let asked = asks_table(codes);
-    (size == 8192) | ((size == 0) & !asked)
+    if size == 8192 {
+        true
+    } else {
+        (size == 0) & !asks_table(codes)
+    }
 }

@@ -1,6 +1,7 @@
 -- Every public function: its contract determines its outcome, asks nothing of the caller, and leaves no clause out.
 use mathlib.Core.Path.{refl, sym, _∙_}
 use Rattle.octets.proofs.Part.{part-one}
+use Rattle.octets.proofs.Truth.{one-truth}
 use Rattle.frame.proofs.Writing.{wrote-one}
 use Rattle.channels.proofs.CallLaws.{called-one}
 use Rattle.exchange.proofs.ReceivingLaws.{received-on-one, took-one}
@@ -26,6 +27,8 @@ use Rattle.octets.proofs.flag.Kinds as octets-flag-kinds
 use Rattle.octets.proofs.flag.Reads as octets-flag-reads
 use Rattle.octets.proofs.check_octet.Kinds as octets-check-octet-kinds
 use Rattle.octets.proofs.check_octet.Reads as octets-check-octet-reads
+use Rattle.octets.proofs.are_same.Kinds as octets-are-same-kinds
+use Rattle.octets.proofs.are_same.Reads as octets-are-same-reads
 use Rattle.octets.proofs.lay.Kinds as octets-lay-kinds
 use Rattle.octets.proofs.lay.Reads as octets-lay-reads
 use Rattle.frame.proofs.Refusal.number.Kinds as frame-number-kinds
@@ -204,6 +207,9 @@ octets-flag-stated = record { determines = λ κs args r₁ r₂ w₁ w₂ x y. 
 
 pub octets-check-octet-stated : Stated octets-check-octet-kinds.ps octets-check-octet-kinds.r octets-check-octet-reads.Pre octets-check-octet-reads.Post (λ κs a. octets-check-octet-reads.ensures κs a tt)
 octets-check-octet-stated = record { determines = λ κs args r₁ r₂ w₁ w₂ x y. (x ∙ sym y, refl); free = λ κs args. tt; whole = λ κs args r e w. refl }
+
+pub octets-are-same-stated : Stated octets-are-same-kinds.ps octets-are-same-kinds.r octets-are-same-reads.Pre octets-are-same-reads.Post (λ κs a. octets-are-same-reads.ensures κs a tt)
+octets-are-same-stated = record { determines = λ κs args r₁ r₂ w₁ w₂ x y. (one-truth r₁ r₂ x y, refl); free = λ κs args. tt; whole = λ κs args r e w. refl }
 
 pub octets-lay-stated : Stated octets-lay-kinds.ps octets-lay-kinds.r octets-lay-reads.Pre octets-lay-reads.Post (λ κs a. octets-lay-reads.ensures κs a tt)
 octets-lay-stated = record { determines = λ κs args r₁ r₂ w₁ w₂ x y. (refl, λ i. (tt, (tt, ((x ∙ sym y) i, tt)))); free = λ κs args. tt; whole = λ κs args r e w. refl }

@@ -1,49 +1,32 @@
--- What was found so far, and the comparison of what is left, are the comparison of all.
-use Prim.Native.Nat.{_+_, _-_, _≤_}
-use mathlib.Core.Bool.{_&&_}
-use mathlib.Core.Path.{_≡_}
+-- Frames of one length agree if their control octets do but for the repeat bit, and what is between these and the check octets is the same.
 use native.Mathlib.Omega.{arith}
-use lib.ListN.{length}
 use borrow.Author.Needs.{needs}
-use Rattle.coupler.specs.Memory.{same, agree}
-use Rattle.coupler.proofs.Repetition.{left, agree-length, agree-begins, agree-goes-on, agree-ends}
+use Rattle.coupler.proofs.Repetition.{agree-length, agree-short, agree-told}
 use Rattle.coupler.proofs.forwarding.agree.Statement.{statement}
 use Rattle.coupler.proofs.forwarding.agree.Tie as tie
 
-abbrev Inv-loop : tie.InvT-loop
-Inv-loop before octets control same₀ at₀ so-far at = (at ≤ length octets + 1) × (so-far && same (left before at) (left octets at) ≡ agree before octets)
-
-abbrev μ-loop : tie.MeasureT-loop
-μ-loop before octets control same₀ at₀ so-far at = length octets - at
-
-returns : tie.Need-returns Inv-loop μ-loop
+returns : tie.Need-returns
 returns c =
     let args = c .before .before .before .args in
     agree-length (args .before .now) (args .octets .now) (omega arith)
 
-loop-holds : tie.Need-loop-holds Inv-loop μ-loop
-loop-holds c =
-    let then = c .before .before .before .before in
-    let args = then .before .before .before .args in (
-      omega arith,
-      rw (c .unmarked2 .ensures, c .before .octet2 .ensures, c .before .before .unmarked .ensures, c .before .before .before .octet .ensures)
-          (agree-begins (args .before .now) (args .octets .now) (omega arith)),
-    )
-
-loop-again : tie.Need-loop-again Inv-loop μ-loop
-loop-again c =
-    let at-loop = c .before .before .before .loop in
-    let then = c .before .before .before .before .before .before in
-    let args = then .before .before .before .before .before .args in
-    (omega arith, agree-goes-on (args .before .now) (args .octets .now) (at-loop .at) (at-loop .same) (omega arith) (omega arith) (at-loop .inv .1))
-
-returns-2 : tie.Need-returns-2 Inv-loop μ-loop
+returns-2 : tie.Need-returns-2
 returns-2 c =
-    let at-loop = c .before .loop in
-    let then = c .before .before .before .before .before in
-    let args = then .before .before .before .before .args in
-    agree-ends (args .before .now) (args .octets .now) (at-loop .at) (at-loop .same) (omega arith) (omega arith) (at-loop .inv .1)
+    let both = c .before in
+    let then = both .before .before .before .before in
+    let args = then .before .before .before .args in
+    rw (both .unmarked2 .ensures, both .before .octet2 .ensures, both .before .before .unmarked .ensures, both .before .before .before .octet .ensures)
+    (agree-short (args .before .now) (args .octets .now) (omega arith) (omega arith))
+
+returns-3 : tie.Need-returns-3
+returns-3 c =
+    let controls = c .before .before .before .before in
+    let equal = controls .before .before .before .before in
+    let args = equal .before .before .before .args in
+    rw (controls .unmarked2 .ensures, controls .before .octet2 .ensures, controls .before .before .unmarked .ensures, controls .before .before .before .octet .ensures)
+    (agree-told (args .before .now) (args .octets .now) (c .are-same .result) (omega arith) (c .are-same .ensures))
 
 pub agree-spec : {M : Type 1} → statement M
-agree-spec = tie.close (tie.spec Inv-loop μ-loop returns (λ c κs. search needs) (λ c κs. search needs) (λ c κs. search needs) (λ c κs. search needs)
-    loop-holds (λ c. search needs) (λ c. search needs) (λ c. search needs) (λ c. search needs) (λ c. search needs) loop-again returns-2)
+agree-spec = tie.close (tie.spec returns (λ c κs. search needs) (λ c κs. search needs) (λ c κs. search needs) (λ c κs. search needs) returns-2
+    (λ c. search needs) (λ c. search needs) (λ c. search needs) (λ c. search needs) (λ c. search needs) (λ c. search needs) (λ c. search needs)
+    (λ c κs. search needs) returns-3)
