@@ -95,6 +95,47 @@ static void accepted(void)
           klumdray_check_octet(P1, sizeof P1 - 1) == P1[sizeof P1 - 1]);
 }
 
+static uint8_t folded(const uint8_t *octets, size_t n)
+{
+    uint8_t sum = 0xFF;
+    while (n > 0)
+        sum = (uint8_t)(sum ^ octets[--n]);
+    return sum;
+}
+
+/* Each bit of each octet counts, once: so does every octet of every length. */
+static int counts_each_octet(uint8_t *octets, size_t n)
+{
+    uint32_t before = klumdray_check_octet(octets, n);
+    size_t at;
+    int right = 1;
+    for (at = 0; at < n; at++) {
+        uint8_t bit = (uint8_t)(1u << at % 8);
+        octets[at] = (uint8_t)(octets[at] ^ bit);
+        right &= klumdray_check_octet(octets, n) == (before ^ bit);
+        octets[at] = (uint8_t)(octets[at] ^ bit);
+    }
+    return right;
+}
+
+/* it is worked out by fours of octets, from whatever address and whatever their number. */
+static void check_octets(void)
+{
+    uint8_t octets[280];
+    size_t n, from;
+    int all = 1, each = 1;
+    for (n = 0; n < sizeof octets; n++)
+        octets[n] = (uint8_t)(n * 37 + n / 7);
+    for (n = 0; n <= 272; n++)
+        for (from = 0; from < 8; from++)
+            all &= klumdray_check_octet(octets + from, n) == folded(octets + from, n);
+    for (n = 0; n < 24; n++)
+        each &= counts_each_octet(octets + n % 4, n);
+    check("check octets of 0 to 272 octets from eight addresses are those of a loop", all);
+    check("each octet of up to 23 counts in the check octet", each);
+    check("each octet of 263 counts in the check octet", counts_each_octet(octets + 1, 263));
+}
+
 static void refused(void)
 {
     static const uint8_t p4[] = {0xCC};
@@ -1882,6 +1923,7 @@ int main(void)
     empty_slices();
     empty_slices_of_the_others();
     accepted();
+    check_octets();
     refused();
     words();
     written();

@@ -240,8 +240,8 @@ fn raw_check_octet(octets: &[u8]) -> u8 {
 
 fn check_octets_differ(proved: fn(&[u8]) -> u8, expected: fn(&[u8]) -> u8) -> Option<Vec<u8>> {
     let mut generator = Generator::new(seed());
-    let mut inputs = (0..=300)
-        .flat_map(|length| [length; 20])
+    let mut inputs = (0..=1500)
+        .flat_map(|length| [length; 5])
         .map(|n| generator.octets(n));
     inputs.find(|octets| proved(octets) != expected(octets))
 }
@@ -442,6 +442,33 @@ mod wrong {
         !reference::check_octet(octets)
     }
 
+    /// Behind so many octets of a run the next ones, up to the number, are passed over.
+    fn passed_over(octets: &[u8], behind: usize, number: usize) -> u8 {
+        let (before, rest) = octets.split_at(behind);
+        let rest = rest.get(number..).unwrap_or_default();
+        reference::check_octet(&[before, rest].concat())
+    }
+
+    const CHECKS: [(&str, fn(&[u8]) -> u8); 7] = [
+        ("not complemented", not_complemented),
+        ("the number of octets", |octets| octets.len() as u8),
+        ("without the last octet", |octets| {
+            passed_over(octets, octets.len().saturating_sub(1), 1)
+        }),
+        ("without the octets behind the last four", |octets| {
+            passed_over(octets, octets.len() / 4 * 4, 3)
+        }),
+        ("without four octets behind the last eight", |octets| {
+            passed_over(octets, octets.len() / 8 * 8, 4)
+        }),
+        ("without the second half", |octets| {
+            passed_over(octets, octets.len() / 8 * 4, octets.len() / 8 * 4)
+        }),
+        ("without the fifth octet", |octets| {
+            passed_over(octets, octets.len().min(4), 1)
+        }),
+    ];
+
     const READERS: [(&str, Reader); 13] = [
         ("check octet not tested", check_not_tested),
         ("LG off by one", lg_off_by_one),
@@ -492,8 +519,9 @@ mod wrong {
 
     #[test]
     fn check_octet_is_noticed() {
-        let proved = raw_check_octet;
-        assert!(check_octets_differ(proved, not_complemented).is_some());
-        assert!(check_octets_differ(proved, |octets| octets.len() as u8).is_some());
+        for (name, wrong) in CHECKS {
+            let found = check_octets_differ(raw_check_octet, wrong);
+            assert!(found.is_some(), "not noticed: {name}");
+        }
     }
 }
