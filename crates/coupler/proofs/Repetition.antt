@@ -11,6 +11,7 @@ use lib.Dec.{eqb}
 use lib.ListN.{length, take, drop, length-append}
 use lib.Seq.{length-take-le, getD-take, ext-getD, take-at}
 use borrow.Author.Tests.{eq-eqb, ne-eqb, eqb-true, not-true}
+use Rattle.octets.proofs.Same.{by-octets, told-by}
 use Rattle.octets.proofs.Truth.{never, and-true, and-yes, one-truth}
 use Rattle.octets.specs.Octets.{octetAt, weigh}
 use Rattle.octets.specs.Check.{checkOctet}
@@ -68,9 +69,11 @@ agree-short a b e h =
     let l : length b - 1 - 1 ≡ 0 = omega arith in
     sym (and-yes (eqb (unmarked (octetAt a 0)) (unmarked (octetAt b 0)))) ∙ (rw (k, l) at (agree-parts a b e))
 
-pub agree-told : (a b : List ℕ) (r : Bool) → length a ≡ length b → r ≡ true ↔ (take (length b - 1 - 1) (drop 1 a) ≡ between b) → eqb (unmarked (octetAt a 0)) (unmarked (octetAt b 0)) && r ≡ agree a b
+pub agree-told : (a b : List ℕ) (r : Bool) → length a ≡ length b
+    → (let front = take (length b - 1 - 1) (drop 1 a) in r ≡ true ↔ ((length front ≡ length (between b)) × ((i : ℕ) → octetAt front i ≡ octetAt (between b) i))) → eqb (unmarked (octetAt a 0)) (unmarked (octetAt b 0)) && r ≡ agree a b
 agree-told a b r e f =
-    let told : r ≡ true ↔ (between a ≡ between b) = rw e f in
+    let back = by-octets (take (length b - 1 - 1) (drop 1 a)) (between b) in
+    let told : r ≡ true ↔ (between a ≡ between b) = rw e (told-by f (back .1, back .0)) in
     ap (λ (t : Bool). eqb (unmarked (octetAt a 0)) (unmarked (octetAt b 0)) && t) (one-truth r (same (between a) (between b)) told (same-iff (between a) (between b))) ∙ agree-parts a b e
 
 agree-iff : (a b : List ℕ) → agree a b ≡ true ↔ ((length a ≡ length b) × (compared a ≡ compared b))

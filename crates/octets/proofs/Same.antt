@@ -8,8 +8,9 @@ use native.Mathlib.Nat.{add-zero, zero-add}
 use native.Mathlib.Omega.{arith}
 use lib.Dec.{eqb}
 use lib.ListN.{length, getD, take, drop, take-append-drop}
+use lib.Seq.{ext-getD}
 use borrow.Author.Tests.{eq-eqb, ne-eqb, eqb-true, eqb-false}
-use Rattle.octets.specs.Octets.{Octets}
+use Rattle.octets.specs.Octets.{octetAt, Octets}
 use Rattle.octets.proofs.Truth.{by-cases, and-true, and-yes}
 use Rattle.octets.proofs.Split.{firsts, firsts-last, take-firsts}
 use Rattle.octets.proofs.Fours.{fourAt}
@@ -87,3 +88,10 @@ parts-same n s t a b f g = (
       sym (take-append-drop n s) ∙ ap₂ (λ (x y : List ℕ). x ++ y) (f .0 (q .0)) (g .0 (q .1)) ∙ take-append-drop n t),
   (λ e. rw (f .1 (ap (take n) e)) (g .1 (ap (drop n) e))),
 )
+
+-- a list is known by its length and its octets
+pub by-octets : (s t : List ℕ) → s ≡ t ↔ ((length s ≡ length t) × ((i : ℕ) → octetAt s i ≡ octetAt t i))
+by-octets s t = ((λ e. (ap length e, λ i. ap (λ (l : List ℕ). octetAt l i) e)), (λ (n, f). ext-getD 0 s t n (λ i h. f i)))
+
+pub told-by : {A B C : Type 0} → A ↔ B → B ↔ C → A ↔ C
+told-by f g = ((λ a. g .0 (f .0 a)), (λ c. f .1 (g .1 c)))
