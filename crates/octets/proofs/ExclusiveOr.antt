@@ -1,11 +1,15 @@
 -- The exclusive or is associative; carried over a list it may start anywhere, and goes on over what is appended.
-use Prim.Native.Nat.{ℕ, zero, suc, _+_, _*_, _/_, _%_, _<_}
+use Prim.Native.Nat.{ℕ, zero, suc, _+_, _-_, _*_, _/_, _%_, _<_}
 use mathlib.Core.List.{List, [], _∷_, _++_}
 use mathlib.Core.Path.{_≡_, refl, sym, ap, ap₂, _∙_}
 use native.Mathlib.Omega.{arith}
 use lib.Arith.{bin-ind}
-use lib.Bits.{bitXor, differ, xor-step, xor-zero-l, xor-zero-r, xor-comm, xor-shr, xor-mod}
-use Rattle.octets.specs.Check.{xorFrom}
+use lib.Bits.{bitXor, differ, xor-step, xor-zero-l, xor-zero-r, xor-comm, xor-shr, xor-mod, xor-lt}
+use lib.Dec.{eqb}
+use borrow.Author.Tests.{eqb-true}
+use Rattle.octets.specs.Octets.{Octets}
+use Rattle.octets.specs.Check.{xorFrom, checkOctet}
+use Rattle.octets.proofs.Below.{at-below}
 
 bits-assoc : (x y z : ℕ) → x < 2 → y < 2 → z < 2 → differ (bitXor x y) z ≡ differ x (bitXor y z)
 bits-assoc zero zero zero a b c = refl
@@ -55,3 +59,21 @@ xor-append x (o ∷ s) t = xor-append (bitXor x o) s t
 -- what two lists come to, each by itself
 pub xor-both : (s t : List ℕ) → xorFrom 0 (s ++ t) ≡ bitXor (xorFrom 0 s) (xorFrom 0 t)
 xor-both s t = xor-append 0 s t ∙ xor-start (xorFrom 0 s) t
+
+-- below 256 what is missing to 255 is the exclusive or with it
+xor-below : (x : ℕ) (s : List ℕ) → x < 256 → Octets s → xorFrom x s < 256
+xor-below x [] h o = h
+xor-below x (a ∷ s) h o = xor-below (bitXor x a) s (xor-lt 8 x a h (o 0)) (λ i. o (suc i))
+
+complement : (x : ℕ) → x < 256 → 255 - x ≡ bitXor 255 x
+complement x h = eqb-true (255 - x) (bitXor 255 x) (at-below (λ (n : ℕ). eqb (255 - n) (bitXor 255 n)) 256 x refl h)
+
+-- so the check octet may be worked out behind any octets whose exclusive or is known
+pub check-behind : (x : ℕ) (s : List ℕ) → x < 256 → Octets s → bitXor x (checkOctet s) ≡ 255 - xorFrom x s
+unfolding checkOctet
+check-behind x s h o =
+    let y : ℕ = xorFrom 0 s in
+    ap (bitXor x) (complement y (xor-below 0 s (omega arith) o))
+    ∙ sym (xor-assoc x 255 y) ∙ ap (λ (z : ℕ). bitXor z y) (xor-comm x 255) ∙ xor-assoc 255 x y
+    ∙ ap (bitXor 255) (sym (xor-start x s))
+    ∙ sym (complement (xorFrom x s) (xor-below x s h o))

@@ -4,13 +4,13 @@ use mathlib.Core.Bool.{Bool, true, false, cond}
 use mathlib.Core.List.{List, [], _∷_, _++_}
 use mathlib.Core.Path.{_≡_, refl, sym, ap, _∙_}
 use native.Mathlib.Omega.{arith}
-use lib.ListN.{length, take, drop, set, length-append}
-use lib.Seq.{take-at}
+use lib.ListN.{length, drop, set, length-append}
 use Rattle.frame.proofs.Valid.{most-payload}
 use Rattle.frame.specs.Valid.{inRange}
 use Rattle.frame.specs.declared.Meaning.{Meaning}
 use Rattle.octets.proofs.Room.{laid-front, laid-behind, set-behind}
-use Rattle.octets.specs.Check.{checkOctet}
+use Rattle.octets.specs.Check.{xorFrom, checkOctet}
+use Rattle.octets.proofs.ExclusiveOr.{xor-append}
 use Rattle.octets.specs.Room.{laid, over}
 use Rattle.tp1.specs.Layout.{standardHead, extendedHead, head, headOf, sealed, tp1Octets}
 
@@ -42,19 +42,21 @@ unfolding tp1Octets sealed
 length-octets m p = rw (length-append (head m (length p - 1) ++ p), length-append (head m (length p - 1)) p, length-head m (length p - 1))
 
 -- head, payload and check octet, each laid behind the one before, are the frame over the room
-pub frame-room : (m : Meaning) (p room : List ℕ) (n : ℕ) {r₁ r₂ r₃ : List ℕ} → n ≡ headOf (m .extended) → headOf (m .extended) + length p < length room
+pub frame-room : (m : Meaning) (p room : List ℕ) (n front : ℕ) {r₁ r₂ r₃ : List ℕ} → n ≡ headOf (m .extended) → headOf (m .extended) + length p < length room
     → r₁ ≡ laid (head m (length p - 1)) 0 room
+    → front ≡ xorFrom 0 (head m (length p - 1))
     → r₂ ≡ laid p n r₁
-    → r₃ ≡ set r₂ (n + length p) (checkOctet (take (n + length p) r₂))
+    → r₃ ≡ set r₂ (n + length p) (255 - xorFrom front p)
     → r₃ ≡ over (tp1Octets m p) room
-unfolding tp1Octets sealed
-frame-room m p room n {r₁} {r₂} {r₃} en h e₁ e₂ e₃ =
+unfolding tp1Octets sealed checkOctet
+frame-room m p room n front {r₁} {r₂} {r₃} en h e₁ ex e₂ e₃ =
     let H : List ℕ = head m (length p - 1) in
     let k : n ≡ length H = en ∙ sym (length-head m (length p - 1)) in
     let fits : length H + length p < length room = omega (arith, k, en) in
     let laid₂ : r₂ ≡ (H ++ p) ++ drop (length H + length p) room = e₂ ∙ rw (k, e₁ ∙ laid-front H room (omega arith)) (laid-behind H p room (omega arith)) in
     let size : length (H ++ p ++ (checkOctet (H ++ p) ∷ [])) ≡ suc (length H + length p) = simp length-append (omega arith) in
-    e₃ ∙ rw (laid₂, k, take-at (H ++ p) (drop (length H + length p) room) (length H + length p) (length-append H p), size) (set-behind H p room (checkOctet (H ++ p)) fits)
+    let check : 255 - xorFrom front p ≡ checkOctet (H ++ p) = ap (λ (x : ℕ). 255 - x) (ap (λ (x : ℕ). xorFrom x p) ex ∙ sym (xor-append 0 H p)) in
+    e₃ ∙ rw (laid₂, k, check, size) (set-behind H p room (checkOctet (H ++ p)) fits)
 
 -- the longest frame has 263 octets
 pub octets-most : (m : Meaning) (p : List ℕ) → inRange m (length p) ≡ true → length (tp1Octets m p) ≤ 263

@@ -23,12 +23,15 @@ put-head-requires c κs =
 
 returns : tie.Need-returns
 returns c =
-    let back = c .before .before .before .before .before .before in
-    let at-head-of = back .before .before .before .before .before .before .head-of in
-    let further = back .before .before .before .before .before .before in
-    let begun = further .before .before .before in
+    let at-seal = c .before .before in
+    let at-lay = at-seal .before .before .before .before in
+    let at-head = at-lay .before .before .before .before in
+    let at-head-of = at-head .before .before in
+    let begun = at-head-of .before .before .before in
     let a = begun .args in
-    frame-room (a .meaning) (a .payload .now) (a .room .now) (at-head-of .result) (at-head-of .ensures) (begun .pre .1) (back .before .before .before .before .put-head .ensures) (c .before .before .before .before .before .before .lay .ensures) (c .before .before .seal .ensures)
+    let front = at-head .put-head in
+    frame-room (a .meaning) (a .payload .now) (a .room .now) (at-head-of .head-of .result) (front .result) (at-head-of .head-of .ensures) (begun .pre .1) (front .ensures .0) (front .ensures .1) (at-lay .lay .ensures)
+    (at-seal .seal .ensures)
 
 pub put-spec : {M : Type 1} → statement M
 put-spec = tie.close (tie.spec sub-lg cast-lg (λ c κs. search needs) put-head-requires (λ c κs. search needs) (λ c. search needs)
