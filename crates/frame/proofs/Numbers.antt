@@ -8,11 +8,11 @@ use lib.Dec.{leb, eqb}
 use lib.ListN.{getD}
 use borrow.Author.Tests.{leb-true, eqb-false, ne-eqb}
 use Rattle.frame.specs.Refusals.{number, lastNumber}
-use Rattle.frame.specs.declared.Refusal.the-variants.{TooFew, NotData, OtherFormat, Escape, LeftOver, WrongCheck, OtherCode, InformationEscape, LongStandard, OtherHeader, OtherService, OtherLength, SmallRoom, OutOfRange, WrongSetting, WrongRecord, LineTwice, NoTable, OtherConnection, NotOpen, OtherCounter}
+use Rattle.frame.specs.declared.Refusal.the-variants.{TooFew, NotData, OtherFormat, Escape, LeftOver, WrongCheck, OtherCode, InformationEscape, LongStandard, OtherHeader, OtherService, OtherLength, SmallRoom, OutOfRange, WrongSetting, WrongRecord, LineTwice, NoTable, OtherConnection, NotOpen, OtherCounter, Invalid, PastTotal}
 use Rattle.frame.specs.declared.Refusal.{Refusal}
 use Rattle.octets.proofs.Truth.{and-true}
 
--- the refusals in the table's order, and the one that has a number
+-- the refusals in the table's order, and the one that has a number; 22 is no row's, so any stands in its place
 abbrev rows : List Refusal
 rows =
     TooFew
@@ -36,6 +36,9 @@ rows =
     ∷ OtherConnection
     ∷ NotOpen
     ∷ OtherCounter
+    ∷ OtherCounter
+    ∷ Invalid
+    ∷ PastTotal
     ∷ []
 
 abbrev numbered : ℕ → Refusal
@@ -64,6 +67,8 @@ row NoTable = (refl, refl)
 row OtherConnection = (refl, refl)
 row NotOpen = (refl, refl)
 row OtherCounter = (refl, refl)
+row Invalid = (refl, refl)
+row PastTotal = (refl, refl)
 
 pub number-listed : (r : Refusal) → (1 ≤ number r) × (number r ≤ lastNumber)
 number-listed r = let b = and-true _ _ (row r .0) in (leb-true 1 (number r) (b .0), leb-true (number r) lastNumber (b .1))

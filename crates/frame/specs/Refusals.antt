@@ -2,7 +2,7 @@
 -- from it: a row is its words and then its number.
 use Prim.Native.Nat.{ℕ}
 use Rattle.frame.specs.declared.Refusal.{Refusal}
-use Rattle.frame.specs.declared.Refusal.the-variants.{TooFew, NotData, OtherFormat, Escape, LeftOver, WrongCheck, OtherCode, InformationEscape, LongStandard, OtherHeader, OtherService, OtherLength, SmallRoom, OutOfRange, WrongSetting, WrongRecord, LineTwice, NoTable, OtherConnection, NotOpen, OtherCounter}
+use Rattle.frame.specs.declared.Refusal.the-variants.{TooFew, NotData, OtherFormat, Escape, LeftOver, WrongCheck, OtherCode, InformationEscape, LongStandard, OtherHeader, OtherService, OtherLength, SmallRoom, OutOfRange, WrongSetting, WrongRecord, LineTwice, NoTable, OtherConnection, NotOpen, OtherCounter, Invalid, PastTotal}
 
 abbrev pub number : Refusal → ℕ
 -- fewer octets than the frame needs
@@ -47,7 +47,11 @@ number OtherConnection = 19
 number NotOpen = 20
 -- counter not one that the channel awaits
 number OtherCounter = 21
+-- two-octet float 7FFFh, which is invalid
+number Invalid = 23
+-- sum past the 64 bits of the total
+number PastTotal = 24
 
 -- the table's last number
 abbrev pub lastNumber : ℕ
-lastNumber = 21
+lastNumber = 24

@@ -40,6 +40,8 @@ pub enum Refusal {
     OtherConnection,
     NotOpen,
     OtherCounter,
+    Invalid,
+    PastTotal,
 }
 
 // What tests in their order find: nothing to refuse, or the first refusal.
@@ -80,6 +82,8 @@ impl Refusal {
             Refusal::OtherConnection => 19,
             Refusal::NotOpen => 20,
             Refusal::OtherCounter => 21,
+            Refusal::Invalid => 23,
+            Refusal::PastTotal => 24,
         }
     }
 }

@@ -1,0 +1,171 @@
+-- What the writer writes, read back: it is M times 2 to the E, off by at most half of 2 to the E; and what was read is written as a code of
+-- the same value.
+use Prim.Native.Nat.{ℕ, zero, suc, _+_, _-_, _*_, _/_, _%_, _^_, _≤_, _<_}
+use mathlib.Core.Bool.{Bool, true, false, cond, not, _&&_}
+use mathlib.Core.Path.{_≡_, refl, sym, ap, _∙_, subst}
+use native.Mathlib.Nat.{mul-assoc, mul-comm, mul-le-mul-right}
+use native.Mathlib.Omega.{arith}
+use lib.Dec.{T, ltb, leb, eqb}
+use lib.Pow.{pow-pos, pow-mono, pow-add}
+use lib.IntN.{ℤ, pos, negsuc, negℤ, natAbs, subℕ, _+ℤ_, _-ℤ_, _*ℤ_}
+use lib.Signed.{mag, leZ}
+use borrow.Author.Tests.{le-leb, lt-leb, leb-true, leb-false, ltb-true, ltb-false, ne-eqb}
+use Rattle.frame.specs.declared.Refusal.the-variants.{OutOfRange, Invalid}
+use Rattle.leak.specs.declared.Coded.the-variants.{Code}
+use Rattle.leak.specs.declared.Value.the-variants.{Hundredths}
+use Rattle.leak.specs.Float.{mantissaOf, hundredthsOf, exponentOf}
+use Rattle.leak.specs.Reading.{readCode}
+use Rattle.leak.specs.Writing.{nearestTo, nearestM, fitsM, smallestE, codeOf, codeFor, writeCode}
+use Rattle.leak.specs.Stages.{exponentUnder}
+use Rattle.leak.proofs.Codes.{sub-above, sub-below, mantissa-plus, mantissa-minus}
+use Rattle.leak.proofs.NearestLaws.{Near, nearest-near, nearest-exact}
+use Rattle.leak.proofs.Smallest.{smallest-plus, smallest-minus, exponent-most, exponent-before, exponent-meets, exponent-some, plus-meets, minus-meets}
+
+-- ---- the value of the code of M and E
+
+value-plus : (m e : ℕ) → m ≤ 2047 → e ≤ 15 → hundredthsOf (codeOf (pos m) e) ≡ pos (m * 2 ^ e)
+unfolding hundredthsOf
+value-plus m e h k =
+    let x : (e * 2048 + m) / 2048 % 16 ≡ e = omega arith in
+    let y : (e * 2048 + m) % 2048 ≡ m = omega arith in
+    rw (mantissa-plus (e * 2048 + m) (omega arith), x, y)
+
+value-minus : (m e : ℕ) → m ≤ 2047 → e ≤ 15 → hundredthsOf (codeOf (negsuc m) e) ≡ negsuc m *ℤ pos (2 ^ e)
+unfolding hundredthsOf
+value-minus m e h k =
+    let c : ℕ = 32768 + e * 2048 + (2047 - m) in
+    let x : (32768 + e * 2048 + (2047 - m)) / 2048 % 16 ≡ e = omega arith in
+    let y : 2047 - (32768 + e * 2048 + (2047 - m)) % 2048 ≡ m = omega arith in
+    rw (mantissa-minus (32768 + e * 2048 + (2047 - m)) (omega arith) (omega arith), x, y)
+
+fits-split : (a : Bool) → a && true ≡ true → a ≡ true
+fits-split true e = refl
+fits-split false e = e
+
+-- "Its value is M times 2 to the E"
+pub value-is : (m : ℤ) (e : ℕ) → fitsM m ≡ true → e ≤ 15 → hundredthsOf (codeOf m e) ≡ m *ℤ pos (2 ^ e)
+value-is (pos m) e h k = value-plus m e (leb-true m 2047 h) k
+value-is (negsuc m) e h k = value-minus m e (leb-true m 2047 (fits-split (leb m 2047) h)) k
+
+-- ---- a number in range: the smallest E serves, and none below it does
+
+pub record Reach (z : ℤ) : Type 0 where
+  pub lower : leZ (negsuc 67108863) z ≡ true
+  pub upper : leZ z (pos 67043328) ≡ true
+
+fits-of : (q : ℕ) → q ≤ 2048 → fitsM (negℤ (pos q)) ≡ true
+fits-of zero h = refl
+fits-of (suc q) h = rw (le-leb q 2047 (omega arith))
+
+pub smallest-fits : (z : ℤ) → Reach z → fitsM (nearestM z (smallestE z)) ≡ true
+smallest-fits (pos a) r = rw (smallest-plus a) (le-leb (nearestTo a (2 ^ exponentUnder 2047 a)) 2047 (exponent-meets 2047 a (omega (arith, plus-meets a (leb-true a 67043328 (r .upper))))))
+smallest-fits (negsuc a) r =
+    rw (smallest-minus a) (fits-of (nearestTo (suc a) (2 ^ exponentUnder 2048 (suc a))) (exponent-meets 2048 (suc a) (minus-meets (suc a) (omega (arith, leb-true a 67108863 (r .lower))))))
+
+pub smallest-most : (z : ℤ) → smallestE z ≤ 15
+smallest-most (pos a) = rw (smallest-plus a) (exponent-most 2047 a)
+smallest-most (negsuc a) = rw (smallest-minus a) (exponent-most 2048 (suc a))
+
+not-of : (q : ℕ) → 2048 < q → fitsM (negℤ (pos q)) ≡ false
+not-of zero h = absurd (omega arith)
+not-of (suc q) h = rw (lt-leb q 2047 (omega arith))
+
+pub smallest-none : (z : ℤ) (e : ℕ) → e < smallestE z → fitsM (nearestM z e) ≡ false
+smallest-none (pos a) e h = lt-leb (nearestTo a (2 ^ e)) 2047 (exponent-before 2047 a e (rw (smallest-plus a) at h))
+smallest-none (negsuc a) e h = not-of (nearestTo (suc a) (2 ^ e)) (exponent-before 2048 (suc a) e (rw (smallest-minus a) at h))
+
+pub written-is : (z : ℤ) → Reach z → hundredthsOf (codeFor z) ≡ nearestM z (smallestE z) *ℤ pos (2 ^ smallestE z)
+unfolding codeFor
+written-is z r = value-is (nearestM z (smallestE z)) (smallestE z) (smallest-fits z r) (smallest-most z)
+
+-- ---- "the result is off by at most half of 2 to the E"
+
+abs-sub : (x y n : ℕ) → x ≤ y + n → y ≤ x + n → natAbs (subℕ x y) ≤ n
+abs-sub x y n h k = go (ltb x y) refl
+  where
+    go : (b : Bool) → ltb x y ≡ b → natAbs (cond b (negsuc (y - suc x)) (pos (x - y))) ≤ n
+    go true p = let l = ltb-true x y p in omega arith
+    go false p = let l = ltb-false x y p in omega arith
+
+abs-plus : (x y n : ℕ) → x ≤ y + n → y ≤ x + n → natAbs (pos x -ℤ pos y) ≤ n
+abs-plus x zero n h k = omega arith
+abs-plus x (suc y) n h k = abs-sub x (suc y) n h k
+
+abs-minus : (x y n : ℕ) → x ≤ suc y + n → suc y ≤ x + n → natAbs (negℤ (pos x) -ℤ negsuc y) ≤ n
+abs-minus zero y n h k = omega arith
+abs-minus (suc x) y n h k = abs-sub (suc y) (suc x) n k h
+
+times-minus : (q p : ℕ) → negℤ (pos q) *ℤ pos p ≡ negℤ (pos (q * p))
+times-minus zero p = ap pos (omega arith) ∙ ap (λ (n : ℕ). negℤ (pos n)) (zero-times p)
+  where
+    zero-times : (p : ℕ) → 0 ≡ 0 * p
+    zero-times p = omega arith
+times-minus (suc q) p = refl
+
+half : (a p q : ℕ) → Near a p q → (q * p ≤ a + p / 2) × (a ≤ q * p + p / 2)
+half a p q n = (omega (arith, n .above), omega (arith, n .below))
+
+pub off-by : (z : ℤ) (e : ℕ) → natAbs (nearestM z e *ℤ pos (2 ^ e) -ℤ z) ≤ 2 ^ e / 2
+off-by (pos a) e =
+    let h = half a (2 ^ e) (nearestTo a (2 ^ e)) (nearest-near a (2 ^ e) (pow-pos e)) in
+    abs-plus (nearestTo a (2 ^ e) * 2 ^ e) a (2 ^ e / 2) (h .0) (h .1)
+off-by (negsuc a) e =
+    let h = half (suc a) (2 ^ e) (nearestTo (suc a) (2 ^ e)) (nearest-near (suc a) (2 ^ e) (pow-pos e)) in
+    rw (times-minus (nearestTo (suc a) (2 ^ e)) (2 ^ e)) (abs-minus (nearestTo (suc a) (2 ^ e) * 2 ^ e) a (2 ^ e / 2) (h .0) (h .1))
+
+pub written-off : (z : ℤ) → Reach z → natAbs (hundredthsOf (codeFor z) -ℤ z) ≤ 2 ^ smallestE z / 2
+written-off z r = rw (written-is z r) (off-by z (smallestE z))
+
+-- in the paper's words: twice the distance is at most 2 to the E
+pub written-half : (z : ℤ) → Reach z → natAbs (hundredthsOf (codeFor z) -ℤ z) * 2 ≤ 2 ^ smallestE z
+written-half z r = let h = written-off z r in omega arith
+
+-- ---- what was read, written again, has the same value
+
+-- a whole number of units of 2 to the e₀ that serves there: at the smallest exponent it is a whole number too
+exact-under : (most q e₀ : ℕ) → q ≤ most → nearestTo (q * 2 ^ e₀) (2 ^ exponentUnder most (q * 2 ^ e₀)) * 2 ^ exponentUnder most (q * 2 ^ e₀) ≡ q * 2 ^ e₀
+exact-under most q e₀ h = go (exponentUnder most (q * 2 ^ e₀)) (no-more (ltb e₀ (exponentUnder most (q * 2 ^ e₀))) refl)
+  where
+    no-more : (b : Bool) → ltb e₀ (exponentUnder most (q * 2 ^ e₀)) ≡ b → exponentUnder most (q * 2 ^ e₀) ≤ e₀
+    no-more true p =
+        let l = exponent-before most (q * 2 ^ e₀) e₀ (ltb-true e₀ (exponentUnder most (q * 2 ^ e₀)) p) in
+        let k : most < q = rw (nearest-exact q (2 ^ e₀) (pow-pos e₀)) at l in
+        absurd (omega arith)
+    no-more false p = ltb-false e₀ (exponentUnder most (q * 2 ^ e₀)) p
+
+    go : (e : ℕ) → e ≤ e₀ → nearestTo (q * 2 ^ e₀) (2 ^ e) * 2 ^ e ≡ q * 2 ^ e₀
+    go e l =
+        let s : e₀ ≡ (e₀ - e) + e = omega arith in
+        let x : q * 2 ^ e₀ ≡ q * 2 ^ (e₀ - e) * 2 ^ e = ap (λ (n : ℕ). q * 2 ^ n) s ∙ ap (λ (n : ℕ). q * n) (pow-add 2 (e₀ - e) e) ∙ sym (mul-assoc q (2 ^ (e₀ - e)) (2 ^ e)) in
+        ap (λ (n : ℕ). nearestTo n (2 ^ e) * 2 ^ e) x ∙ ap (λ (n : ℕ). n * 2 ^ e) (nearest-exact (q * 2 ^ (e₀ - e)) (2 ^ e) (pow-pos e)) ∙ sym x
+
+neg-of : (n : ℕ) → 0 < n → negℤ (pos n) ≡ negsuc (n - 1)
+neg-of zero h = absurd (omega arith)
+neg-of (suc n) h = ap negsuc (omega arith)
+
+again-plus : (q e₀ : ℕ) → q ≤ 2047 → Reach (pos (q * 2 ^ e₀)) → hundredthsOf (codeFor (pos (q * 2 ^ e₀))) ≡ pos (q * 2 ^ e₀)
+again-plus q e₀ h r = written-is (pos (q * 2 ^ e₀)) r ∙ rw (smallest-plus (q * 2 ^ e₀)) (ap pos (exact-under 2047 q e₀ h))
+
+again-minus : (q e₀ a : ℕ) → suc q ≤ 2048 → suc q * 2 ^ e₀ ≡ suc a → Reach (negsuc a) → hundredthsOf (codeFor (negsuc a)) ≡ negsuc a
+again-minus q e₀ a h s r =
+    written-is (negsuc a) r ∙ rw (smallest-minus a) (times-minus (nearestTo (suc a) (2 ^ exponentUnder 2048 (suc a))) (2 ^ exponentUnder 2048 (suc a)) ∙ ap (λ (n : ℕ). negℤ (pos n)) (same (suc a) s))
+  where
+    same : (n : ℕ) → suc q * 2 ^ e₀ ≡ n → nearestTo n (2 ^ exponentUnder 2048 n) * 2 ^ exponentUnder 2048 n ≡ n
+    same n e = subst (λ (m : ℕ). nearestTo m (2 ^ exponentUnder 2048 m) * 2 ^ exponentUnder 2048 m ≡ m) e (exact-under 2048 (suc q) e₀ h)
+
+-- M times 2 to the E in range, of an M that fits
+pub again-is : (m : ℤ) (e : ℕ) → fitsM m ≡ true → Reach (m *ℤ pos (2 ^ e)) → hundredthsOf (codeFor (m *ℤ pos (2 ^ e))) ≡ m *ℤ pos (2 ^ e)
+again-is (pos q) e h r = again-plus q e (leb-true q 2047 h) r
+again-is (negsuc q) e h r =
+    let p : 0 < 2 ^ e = pow-pos e in
+    let n : 0 < suc q * 2 ^ e = omega (arith, mul-le-mul-right (2 ^ e) (one-le q)) in
+    let z : negℤ (pos (suc q * 2 ^ e)) ≡ negsuc (suc q * 2 ^ e - 1) = neg-of (suc q * 2 ^ e) n in
+    ap (λ (x : ℤ). hundredthsOf (codeFor x)) z
+    ∙ again-minus q e (suc q * 2 ^ e - 1) (omega (arith, leb-true q 2047 (fits-split (leb q 2047) h))) (omega arith) (subst Reach z r) ∙ sym z
+  where
+    one-le : (q : ℕ) → 1 ≤ suc q
+    one-le q = omega arith
+
+pub again : (c : ℕ) → fitsM (mantissaOf c) ≡ true → Reach (hundredthsOf c) → hundredthsOf (codeFor (hundredthsOf c)) ≡ hundredthsOf c
+unfolding hundredthsOf
+again c h r = again-is (mantissaOf c) (exponentOf c) h r
