@@ -6,7 +6,7 @@ ghost use lib.ListN.{length};
 ghost use Rattle.octets.specs.Room.{over};
 ghost use Rattle.frame.specs.Order.{firstOf};
 ghost use Rattle.frame.specs.Valid.{inRange};
-ghost use Rattle.coupler.specs.Memory.{unmarked, agree, isRepetition};
+ghost use Rattle.coupler.specs.Memory.{isRepetition};
 ghost use Rattle.coupler.specs.Hearing.{meaningOnly, answerOn, payloadOn};
 ghost use Rattle.coupler.specs.Step.{couplerBy, settingTests, fromIp, readBy, kindOf, isAllowed, acknowledgementBy, forwardedMeaning, formOf, refusedOutcome};
 ghost use Rattle.coupler.specs.Stages.{putSize, Sent, PassedOn, HandedBy};
@@ -173,39 +173,6 @@ fn pass_on(
     }
 }
 
-// A control octet without the repeat bit.
-fn unmarked(control: u8) -> u8
-    ensures { λ r. ⌜ r ≡ unmarked control ⌝ }
-{
-    control - control / 32 % 2 * 32
-}
-
-// "all octets must agree except the repeat bit and the check octet": compared where they lie.
-fn agree(before: &[u8], octets: &[u8]) -> bool
-    ensures { λ r. ⌜ r ≡ agree (now (before .entry)) (now (octets .entry)) ⌝ }
-{
-    if before.len() != octets.len() {
-        return false;
-    }
-    let control = unmarked(octets::octet(octets, 0));
-    let same = unmarked(octets::octet(before, 0)) == control;
-    if octets.len() < 2 {
-        return same;
-    }
-    let last = octets.len() - 1;
-    same & octets::are_same(&before[1..last], &octets[1..last])
-}
-
-fn is_repetition(remembered: &[u8], octets: &[u8]) -> bool
-    ensures { λ r. ⌜ r ≡ isRepetition (now (remembered .entry)) (now (octets .entry)) ⌝ }
-{
-    let meaning = tp1::meaning_in(octets);
-    if meaning.first {
-        return false;
-    }
-    agree(remembered, octets)
-}
-
 // "IP has neither memory nor acknowledgement"
 fn repeats(ip: bool, remembered: &[u8], octets: &[u8]) -> bool
     ensures { λ r. ⌜ r ≡ not ip && isRepetition (now (remembered .entry)) (now (octets .entry)) ⌝ }
@@ -213,7 +180,7 @@ fn repeats(ip: bool, remembered: &[u8], octets: &[u8]) -> bool
     if ip {
         return false;
     }
-    is_repetition(remembered, octets)
+    crate::is_repetition(remembered, octets)
 }
 
 fn meaning_only(answer: CemiAnswer) -> Tp1Answer

@@ -1,10 +1,11 @@
 // One coupler step: what is forwarded, what is acknowledged, what is remembered.
 mod forwarding;
 mod remembering;
+mod repeating;
 
 ghost use mathlib.Core.Path.{_≡_};
 ghost use Rattle.coupler.specs.Setting.{settingOf, hoppedBy};
-ghost use Rattle.coupler.specs.Memory.{noMemory};
+ghost use Rattle.coupler.specs.Memory.{noMemory, isRepetition};
 ghost use Rattle.coupler.specs.Step.{couplerBy, HandedOn, Did};
 use frame::Verdict;
 
@@ -56,6 +57,17 @@ fn hopped(setting: Setting, count: u8) -> u8
     ensures { λ r. ⌜ r ≡ hoppedBy setting count ⌝ }
 {
     passing::hopped_count(count)
+}
+
+// "An accepted frame marked repeated is a repetition if" it agrees with the remembered one (no octets: none), as R-2 has it.
+pub fn is_repetition(remembered: &[u8], octets: &[u8]) -> bool
+    ensures { λ r. ⌜ r ≡ isRepetition (now (remembered .entry)) (now (octets .entry)) ⌝ }
+{
+    let meaning = tp1::meaning_in(octets);
+    if meaning.first {
+        return false;
+    }
+    repeating::agree(remembered, octets)
 }
 
 // One frame handed on or not: all that a step decides, with the frame that its side remembers (no octets: none).

@@ -2,8 +2,8 @@
 use native.Mathlib.Omega.{arith}
 use borrow.Author.Needs.{needs}
 use Rattle.coupler.proofs.Repetition.{agree-length, agree-short, agree-told}
-use Rattle.coupler.proofs.forwarding.agree.Statement.{statement}
-use Rattle.coupler.proofs.forwarding.agree.Tie as tie
+use Rattle.coupler.proofs.repeating.agree.Statement.{statement}
+use Rattle.coupler.proofs.repeating.agree.Tie as tie
 
 returns : tie.Need-returns
 returns c =

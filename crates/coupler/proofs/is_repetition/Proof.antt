@@ -1,8 +1,8 @@
 -- A first sending is none; otherwise what `agree` ensures.
 use borrow.Author.Needs.{needs}
 use Rattle.coupler.specs.Memory.{isRepetition}
-use Rattle.coupler.proofs.forwarding.is_repetition.Statement.{statement}
-use Rattle.coupler.proofs.forwarding.is_repetition.Tie as tie
+use Rattle.coupler.proofs.is_repetition.Statement.{statement}
+use Rattle.coupler.proofs.is_repetition.Tie as tie
 
 returns : tie.Need-returns
 unfolding isRepetition

@@ -2,8 +2,8 @@
 use mathlib.Core.Path.{refl}
 use borrow.Author.Needs.{needs}
 use Rattle.coupler.specs.Memory.{unmarked}
-use Rattle.coupler.proofs.forwarding.unmarked.Statement.{statement}
-use Rattle.coupler.proofs.forwarding.unmarked.Tie as tie
+use Rattle.coupler.proofs.repeating.unmarked.Statement.{statement}
+use Rattle.coupler.proofs.repeating.unmarked.Tie as tie
 
 returns : tie.Need-returns
 unfolding unmarked
