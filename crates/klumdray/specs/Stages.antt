@@ -1,7 +1,8 @@
 -- The lent block and the numbers in stages: for the contracts of private functions. No public contract rests on these definitions.
 use Prim.Native.Nat.{ℕ, zero, suc, _+_, _*_, _%_, _^_, _<_}
 use mathlib.Core.List.{List, [], _∷_}
-use mathlib.Core.Bool.{cond}
+use mathlib.Core.Bool.{Bool, true, false, cond}
+use lib.IntN.{ℤ}
 use lib.ListN.{length}
 use lib.Dec.{ltb, leb, eqb}
 use Rattle.octets.specs.Octets.{octetAt}
@@ -10,6 +11,11 @@ use Rattle.octets.specs.Room.{laid}
 use Rattle.frame.specs.declared.Written.{Written}
 use Rattle.frame.specs.declared.Written.the-variants.{Put, Refused as Unwritten}
 use Rattle.channels.specs.declared.Channel.{Channel}
+use Rattle.leak.specs.declared.Added.{Added}
+use Rattle.leak.specs.declared.Added.the-variants.{Sum, Refused as Unadded}
+use Rattle.station.specs.declared.Telegram.{Telegram}
+use Rattle.station.specs.declared.Telegram.the-variants.{Increment, Repetition, OtherGroup, NoIncrement, Refused}
+use Rattle.klumdray.specs.Litres.{totalOctets}
 use Rattle.klumdray.specs.Channels.{channelSize, openPlace, receivePlace, sendPlace}
 
 -- the side that the step inside is handed: 2, which is none, for every number that is none
@@ -42,3 +48,23 @@ heldChannel block n = record { opened = eqb (octetIn block n openPlace) 0x01; re
 abbrev pub Sized : Written → Type 0
 Sized (Put n) = n < 2 ^ 16
 Sized (Unwritten r) = Unit {0}
+
+-- a total laid over its block, where there is a new one
+abbrev pub sumLaid : Added → List ℕ → List ℕ
+sumLaid (Sum s) block = laid (totalOctets s) 0 block
+sumLaid (Unadded r) block = block
+
+abbrev pub takenLaid : ℤ → Telegram → List ℕ → List ℕ
+takenLaid total (Increment code) block = laid (totalOctets total) 0 block
+takenLaid total Repetition block = block
+takenLaid total OtherGroup block = block
+takenLaid total NoIncrement block = block
+takenLaid total (Refused r) block = block
+
+-- whether the frame becomes the remembered one
+abbrev pub isAccepted : Telegram → Bool
+isAccepted (Increment code) = true
+isAccepted Repetition = true
+isAccepted OtherGroup = true
+isAccepted NoIncrement = true
+isAccepted (Refused r) = false

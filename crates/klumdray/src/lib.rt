@@ -1,16 +1,21 @@
 // The surface for C and Rust: numbers and byte slices only. include/klumdray.h documents each call.
 mod block;
 mod counters;
+mod litres;
 mod numbers;
 mod traces;
 
 ghost use mathlib.Core.Path.{_≡_};
 ghost use mathlib.Core.Bool.{_&&_};
 ghost use Rattle.octets.specs.Check.{checkOctet};
+ghost use Rattle.leak.specs.Increment.{incrementIn};
+ghost use Rattle.leak.specs.Reading.{readOctets};
+ghost use Rattle.leak.specs.Writing.{writeCode};
 ghost use Rattle.site.specs.Stores.{stores};
 ghost use Rattle.tracer.specs.Query.{queryOf};
 ghost use Rattle.klumdray.specs.Block.{couplerSet, lentRight, SteppedThrough};
 ghost use Rattle.klumdray.specs.Channels.{TookThrough, SentThrough, ConfirmedThrough};
+ghost use Rattle.klumdray.specs.Litres.{valueNumber, valueGiven, codedNumber, carriedNumber, AddedThrough, TookFrame};
 ghost use Rattle.klumdray.specs.Numbers.{tp1Answered, cemiAnswered, routingAnswered, requestAnswered, acknowledgementAnswered, areNumbers, areMarks, areOctets, areConnected, meaningFrom, messageFrom, acknowledgementFrom, WroteTp1, WroteCemi, WroteRouting, WroteRequest, WroteAcknowledgement};
 ghost use Rattle.klumdray.specs.Traces.{explanationNumber, TracedThrough, whyThrough};
 use cemi::Codes;
@@ -383,6 +388,75 @@ pub extern "C" fn klumdray_why<'a>(
         let asked = numbers::octet_of(line);
         let explanation = tracer::why(query, site, project, own, asked);
         traces::of_explanation(explanation)
+    } else {
+        14
+    }
+}
+
+#[no_mangle]
+pub extern "C" fn klumdray_float_value(code: u32) -> u64
+    ensures { λ r. ⌜ r ≡ valueNumber (valueGiven code) ⌝ }
+{
+    if code < 65536 {
+        litres::of_value(leak::read(numbers::word_of(code)))
+    } else {
+        14
+    }
+}
+
+#[no_mangle]
+pub extern "C" fn klumdray_float_read(octets: &[u8]) -> u64
+    ensures { λ r. ⌜ r ≡ valueNumber (readOctets (now (octets .entry))) ⌝ }
+{
+    litres::of_value(leak::read_octets(octets))
+}
+
+#[no_mangle]
+pub extern "C" fn klumdray_float_write(hundredths: i64) -> u32
+    ensures { λ r. ⌜ r ≡ codedNumber (writeCode hundredths) ⌝ }
+{
+    litres::of_coded(leak::write(hundredths))
+}
+
+#[no_mangle]
+pub extern "C" fn klumdray_increment(payload: &[u8]) -> u32
+    ensures { λ r. ⌜ r ≡ carriedNumber (incrementIn (now (payload .entry))) ⌝ }
+{
+    litres::of_carried(leak::increment(payload))
+}
+
+#[no_mangle]
+pub extern "C" fn klumdray_total_add(total: &mut [u8], code: u32) -> u32
+    ensures { λ r. ⌜ AddedThrough (now (total .entry)) code r (now (total .exit)) ⌝ }
+{
+    let right = (total.len() == 8) & (code < 65536);
+    if right {
+        let held = litres::total_in(total);
+        let added = leak::add(held, numbers::word_of(code));
+        litres::put_sum(added, total);
+        litres::of_added(added)
+    } else {
+        14
+    }
+}
+
+#[no_mangle]
+pub extern "C" fn klumdray_take(
+    total: &mut [u8],
+    memory: &mut [u8],
+    group: u32,
+    octets: &[u8],
+) -> u32
+    ensures { λ r. ⌜ TookFrame (now (total .entry)) (now (memory .entry)) group (now (octets .entry)) r (now (total .exit)) (now (memory .exit)) ⌝ }
+{
+    let right = (total.len() == 8) & (memory.len() == 265) & (group < 65536);
+    if right {
+        let held = litres::total_in(total);
+        let end = 2 + block::kept_in(memory, 0);
+        let taken = station::take(held, numbers::word_of(group), &memory[2..end], octets);
+        litres::put_taken(taken, total);
+        block::remember_if(litres::is_accepted(taken), memory, 0, octets);
+        litres::of_taken(taken)
     } else {
         14
     }

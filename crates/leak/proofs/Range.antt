@@ -9,6 +9,7 @@ use lib.Signed.{mag, ltZ, leZ}
 use mir.Syntax.{w32, w64}
 use mir.Val.{SFits, toZ, ofZ}
 use mir.Facts.{toZ-ofZ, sfits-widen}
+use Rattle.octets.proofs.Truth.{never}
 use borrow.Author.Tests.{lt-leb, le-leb, lt-ltb, le-ltb, ltb-true, ltb-false, leb-true, leb-false, eq-eqb, ne-eqb}
 use Rattle.frame.specs.declared.Refusal.the-variants.{Invalid, PastTotal}
 use Rattle.leak.specs.declared.Added.{Added}
@@ -77,9 +78,6 @@ least-minus b n a h = go (ltb (suc b) (suc n)) refl
 upper : (b : ℕ) → b ≤ top → pos top -ℤ pos b ≡ pos (top - b)
 upper zero h = ap pos (omega arith)
 upper (suc b) h = sub-above top (suc b) h
-
-never : {X : Type 0} → _≡_ {A = Bool} true false → X
-never e = let z : _≡_ {A = ℕ} 0 1 = cc in absurd (omega arith)
 
 pub bottom-mag : (s : ℤ) → mag s ≤ top → ltZ s (pos 0) ≡ true → mag (negsuc top -ℤ s) ≤ top
 bottom-mag (pos b) g h = never (sym h ∙ le-ltb b 0 (omega arith))

@@ -5,11 +5,11 @@ use mathlib.Core.Path.{_≡_}
 use lib.IntN.{ℤ}
 use Rattle.station.specs.declared.Telegram.{Telegram}
 use Rattle.station.specs.declared.Telegram.the-variants.{Increment, Repetition, OtherGroup, NoIncrement, Refused}
-use Rattle.station.specs.declared.Taken.{Taken}
+use Rattle.station.specs.declared.Tally.{Tally}
 use Rattle.station.specs.Taking.{takenBy, keptBy}
 
 -- each answer is what taking allows, of the total and the frame that the ones before have left
-abbrev pub Follows : ℕ → ℤ → List ℕ → List (List ℕ) → List Taken → Type 0
+abbrev pub Follows : ℕ → ℤ → List ℕ → List (List ℕ) → List Tally → Type 0
 Follows group total remembered [] [] = Unit {0}
 Follows group total remembered [] (t ∷ ts) = ⊥
 Follows group total remembered (s ∷ ss) [] = ⊥
@@ -17,7 +17,7 @@ Follows group total remembered (s ∷ ss) (t ∷ ts) =
     (t ≡ takenBy total group remembered s) × Follows group (t .total) (keptBy (t .telegram) remembered s) ss ts
 
 -- the total that the last answer has left
-abbrev pub left : ℤ → List Taken → ℤ
+abbrev pub left : ℤ → List Tally → ℤ
 left total [] = total
 left total (t ∷ ts) = left (t .total) ts
 
@@ -29,6 +29,6 @@ countedIn OtherGroup rest = rest
 countedIn NoIncrement rest = rest
 countedIn (Refused r) rest = rest
 
-abbrev pub counted : List Taken → List ℕ
+abbrev pub counted : List Tally → List ℕ
 counted [] = []
 counted (t ∷ ts) = countedIn (t .telegram) (counted ts)

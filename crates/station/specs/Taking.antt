@@ -19,7 +19,7 @@ use Rattle.leak.specs.Increment.{incrementIn}
 use Rattle.leak.specs.Total.{addTo}
 use Rattle.station.specs.declared.Telegram.{Telegram}
 use Rattle.station.specs.declared.Telegram.the-variants.{Increment, Repetition, OtherGroup, NoIncrement, Refused}
-use Rattle.station.specs.declared.Taken.{Taken}
+use Rattle.station.specs.declared.Tally.{Tally}
 
 -- "AT 1 means a group address"
 abbrev pub isTo : ℕ → Meaning → Bool
@@ -43,22 +43,22 @@ unfoldable pub telegramIn : ℕ → List ℕ → List ℕ → Telegram
 telegramIn group remembered s = telegramFor group remembered s (readTp1 s)
 
 -- an increment added, or refused by 23 or 24: "the total stays"
-abbrev pub addedBy : ℤ → ℕ → Added → Taken
+abbrev pub addedBy : ℤ → ℕ → Added → Tally
 addedBy total code (Sum sum) = record { telegram = Increment code; total = sum }
 addedBy total code (Unadded r) = record { telegram = Refused r; total = total }
 
-unfoldable pub summedBy : ℤ → ℕ → Taken
+unfoldable pub summedBy : ℤ → ℕ → Tally
 summedBy total code = addedBy total code (addTo total code)
 
 -- whatever is no increment leaves the total
-abbrev pub countedBy : ℤ → Telegram → Taken
+abbrev pub countedBy : ℤ → Telegram → Tally
 countedBy total (Increment code) = summedBy total code
 countedBy total Repetition = record { telegram = Repetition; total = total }
 countedBy total OtherGroup = record { telegram = OtherGroup; total = total }
 countedBy total NoIncrement = record { telegram = NoIncrement; total = total }
 countedBy total (Refused r) = record { telegram = Refused r; total = total }
 
-unfoldable pub takenBy : ℤ → ℕ → List ℕ → List ℕ → Taken
+unfoldable pub takenBy : ℤ → ℕ → List ℕ → List ℕ → Tally
 takenBy total group remembered s = countedBy total (telegramIn group remembered s)
 
 -- "nothing remembered changes" with a refusal; "Afterwards the accepted frame is the remembered one", whichever group it went to

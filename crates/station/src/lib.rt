@@ -17,7 +17,7 @@ pub enum Telegram {
 }
 
 // What the frame was, and the total afterwards.
-pub struct Taken {
+pub struct Tally {
     pub telegram: Telegram,
     pub total: i64,
 }
@@ -57,34 +57,34 @@ pub fn recognise(group: u16, remembered: &[u8], octets: &[u8]) -> Telegram
     }
 }
 
-fn summed(total: i64, code: u16) -> Taken
+fn summed(total: i64, code: u16) -> Tally
     ensures { λ r. ⌜ r ≡ summedBy total code ⌝ }
 {
     match leak::add(total, code) {
         Added::Sum(sum) => {
             let telegram = Telegram::Increment(code);
-            Taken {
+            Tally {
                 telegram,
                 total: sum,
             }
         }
         Added::Refused(refusal) => {
             let telegram = Telegram::Refused(refusal);
-            Taken { telegram, total }
+            Tally { telegram, total }
         }
     }
 }
 
 // Adds what octets from the line add to the total.
-pub fn take(total: i64, group: u16, remembered: &[u8], octets: &[u8]) -> Taken
+pub fn take(total: i64, group: u16, remembered: &[u8], octets: &[u8]) -> Tally
     ensures { λ r. ⌜ r ≡ takenBy total group (now (remembered .entry)) (now (octets .entry)) ⌝ }
 {
     let telegram = recognise(group, remembered, octets);
     match telegram {
         Telegram::Increment(code) => summed(total, code),
-        Telegram::Repetition => Taken { telegram, total },
-        Telegram::OtherGroup => Taken { telegram, total },
-        Telegram::NoIncrement => Taken { telegram, total },
-        Telegram::Refused(_) => Taken { telegram, total },
+        Telegram::Repetition => Tally { telegram, total },
+        Telegram::OtherGroup => Tally { telegram, total },
+        Telegram::NoIncrement => Tally { telegram, total },
+        Telegram::Refused(_) => Tally { telegram, total },
     }
 }

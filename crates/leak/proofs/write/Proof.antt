@@ -6,6 +6,7 @@ use native.Mathlib.Omega.{arith}
 use lib.IntN.{negsuc}
 use lib.Signed.{mag, ltZ}
 use mir.Facts.{toZ-ofZ}
+use mir.Syntax.{w64}
 use Rattle.leak.specs.declared.Coded.the-variants.{Code}
 use Rattle.leak.specs.Writing.{writeCode}
 use Rattle.leak.proofs.Sides.{minus-side, plus-side, minus-refused, minus-below, minus-written, plus-refused, plus-most, plus-written}
@@ -15,13 +16,13 @@ use Rattle.leak.proofs.write.Tie as tie
 sub-code-minus : tie.Need-sub-code-minus
 sub-code-minus c =
     let start = c .before .before in
-    minus-side (start .args .hundredths) (start .fits .hundredths) (c .before .if1 .taken) .fits
+    minus-side w64 (start .args .hundredths) (start .fits .hundredths) (c .before .if1 .taken) .fits
 
 cast-code-minus : tie.Need-cast-code-minus
 cast-code-minus c =
     let start = c .before .before in
     let z = start .args .hundredths in
-    let s = minus-side z (start .fits .hundredths) (c .before .if1 .taken) in
+    let s = minus-side w64 z (start .fits .hundredths) (c .before .if1 .taken) in
     let h : ltZ (negsuc (mag z)) (negsuc 67108863) ≡ false = rw (toZ-ofZ (start .fits .hundredths), s .is) at (c .if2 .left) in
     let k : mag z < 67108864 = minus-below (mag z) h in
     rw (s .back) (tt, record { fits = omega (arith, k) })
@@ -30,7 +31,7 @@ code-minus-requires : tie.Need-code-minus-requires
 code-minus-requires c κs =
     let start = c .before .before in
     let z = start .args .hundredths in
-    let s = minus-side z (start .fits .hundredths) (c .before .if1 .taken) in
+    let s = minus-side w64 z (start .fits .hundredths) (c .before .if1 .taken) in
     let h : ltZ (negsuc (mag z)) (negsuc 67108863) ≡ false = rw (toZ-ofZ (start .fits .hundredths), s .is) at (c .if2 .left) in
     rw (s .back) (minus-below (mag z) h)
 
@@ -38,7 +39,7 @@ cast-code-plus : tie.Need-cast-code-plus
 cast-code-plus c =
     let start = c .before .before in
     let z = start .args .hundredths in
-    let s = plus-side z (start .fits .hundredths) (c .before .if1 .left) in
+    let s = plus-side w64 z (start .fits .hundredths) (c .before .if1 .left) in
     let k : mag z ≤ 67043328 = plus-most (mag z) (rw (s .1) at (c .if3 .left)) in
     rw (s .1) (tt, record { fits = omega (arith, k) })
 
@@ -46,14 +47,14 @@ code-plus-requires : tie.Need-code-plus-requires
 code-plus-requires c κs =
     let start = c .before .before in
     let z = start .args .hundredths in
-    let s = plus-side z (start .fits .hundredths) (c .before .if1 .left) in
+    let s = plus-side w64 z (start .fits .hundredths) (c .before .if1 .left) in
     rw (s .1) (plus-most (mag z) (rw (s .1) at (c .if3 .left)))
 
 returns : tie.Need-returns
 returns c =
     let start = c .before .before in
     let z = start .args .hundredths in
-    let s = minus-side z (start .fits .hundredths) (c .before .if1 .taken) in
+    let s = minus-side w64 z (start .fits .hundredths) (c .before .if1 .taken) in
     let h : ltZ (negsuc (mag z)) (negsuc 67108863) ≡ true = rw (toZ-ofZ (start .fits .hundredths), s .is) at (c .if2 .taken) in
     sym (ap writeCode (s .is) ∙ minus-refused (mag z) h)
 
@@ -61,7 +62,7 @@ returns-2 : tie.Need-returns-2
 returns-2 c =
     let start = c .before .before .before in
     let z = start .args .hundredths in
-    let s = minus-side z (start .fits .hundredths) (c .before .before .if1 .taken) in
+    let s = minus-side w64 z (start .fits .hundredths) (c .before .before .if1 .taken) in
     let h : ltZ (negsuc (mag z)) (negsuc 67108863) ≡ false = rw (toZ-ofZ (start .fits .hundredths), s .is) at (c .before .if2 .left) in
     ap Code (rw (s .back) at (c .code-minus .ensures)) ∙ sym (ap writeCode (s .is) ∙ minus-written (mag z) h)
 
@@ -69,14 +70,14 @@ returns-3 : tie.Need-returns-3
 returns-3 c =
     let start = c .before .before in
     let z = start .args .hundredths in
-    let s = plus-side z (start .fits .hundredths) (c .before .if1 .left) in
+    let s = plus-side w64 z (start .fits .hundredths) (c .before .if1 .left) in
     sym (ap writeCode (s .0) ∙ plus-refused (mag z) (rw (s .1) at (c .if3 .taken)))
 
 returns-4 : tie.Need-returns-4
 returns-4 c =
     let start = c .before .before .before in
     let z = start .args .hundredths in
-    let s = plus-side z (start .fits .hundredths) (c .before .before .if1 .left) in
+    let s = plus-side w64 z (start .fits .hundredths) (c .before .before .if1 .left) in
     ap Code (rw (s .1) at (c .code-plus .ensures)) ∙ sym (ap writeCode (s .0) ∙ plus-written (mag z) (rw (s .1) at (c .before .if3 .left)))
 
 pub write-spec : {M : Type 1} → statement M
