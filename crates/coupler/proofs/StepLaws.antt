@@ -133,15 +133,18 @@ did k m s {room} {r} {n} {o} {m′} {room′} e j x y =
       memory = y ∙ ap (λ (p : Outcome). rememberedIf (eqb (p .number) 0 && not (fromIp k)) m (k .setting .side) s) (x .outcome) ∙ memory-by-number k (take n (r .octets)) m s (heard k s (length room));
     }
 
--- a TP1 frame that was heard has at most 263 octets: it fits the memory
+-- a TP1 frame has at most 263 octets: it fits the memory
+pub tp1-most : (s : List ℕ) (m : Meaning) → Octets s → readTp1 s ≡ Frame m → length s ≤ 263
+tp1-most s m o e =
+    let w = tp1-read-laid s m o e in
+    omega (arith, ap length (w .layout), octets-most m (payloadIn (Frame m) s) (w .valid .ranges))
+
 pub heard-size : (k : Coupler) (s : List ℕ) (n : ℕ) (m : Meaning) (p : List ℕ) → Octets s → heard k s n ≡ frame m p → fromIp k ≡ false → length s ≤ 263
 unfolding heard
 heard-size k s n m p o e f = settled (firstOf (settingTests k n)) (rw f at e)
   where
     answered : (a : Tp1Answer) → readTp1 s ≡ a → heardTp1 a s ≡ frame m p → length s ≤ 263
-    answered (Frame x) q z =
-        let w = tp1-read-laid s x o q in
-        omega (arith, ap length (w .layout), octets-most x (payloadIn (Frame x) s) (w .valid .ranges))
+    answered (Frame x) q z = tp1-most s x o q
     answered (Unread r) q z = frame-nothing z
 
     settled : (v : Verdict) → after v (heardTp1 (readTp1 s) s) ≡ frame m p → length s ≤ 263

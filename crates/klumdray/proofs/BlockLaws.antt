@@ -40,7 +40,7 @@ half-back C n o =
     let l : low (wordAt C 0) ≡ octetAt C 1 = low-word (octetAt C 0) (octetAt C 1) (o 1) in
     rw (rest, h, l) (sym (head-rest 2 C (omega arith)))
 
-half-remembered : (C s : List ℕ) → length C ≡ 265 → length s ≤ 263 → rememberedAt 0 s C ≡ halfOf (remembering (rememberedIn C) s)
+pub half-remembered : (C s : List ℕ) → length C ≡ 265 → length s ≤ 263 → rememberedAt 0 s C ≡ halfOf (remembering (rememberedIn C) s)
 unfolding rememberedAt remembering
 half-remembered C s n k =
     let m : length s % 65536 ≡ length s = omega arith in
@@ -49,7 +49,7 @@ half-remembered C s n k =
     let j : length s ≤ length (drop 2 C) = rw length-drop (omega arith) in
     rw (m, rest, laid-front H C (omega arith), laid-right H (drop 2 C) s 0 (omega arith))
 
-half-recalled : (C : List ℕ) → recalled (rememberedIn C) ≡ take (keptIn C 0) (drop 2 C)
+pub half-recalled : (C : List ℕ) → recalled (rememberedIn C) ≡ take (keptIn C 0) (drop 2 C)
 unfolding recalled kept
 half-recalled C = go (leb (wordAt C 0) 263) refl
   where

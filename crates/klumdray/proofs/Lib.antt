@@ -3,6 +3,8 @@ pub mod BlockLaws
 pub mod ChannelLaws
 pub mod ChannelsInside
 pub mod Bits
+pub mod SignedBits
+pub mod LitresLaws
 pub mod Telling
 pub mod ReaderNumbers
 pub mod WriterNumbers
