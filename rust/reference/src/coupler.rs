@@ -193,7 +193,8 @@ pub fn lowered(count: u8) -> Option<u8> {
     }
 }
 
-/// What a TP1 side remembers: "the last accepted frame that was received from it".
+/// What a TP1 side remembers, and a station of its line: "the last accepted frame that was received
+/// from it".
 #[derive(Clone, Debug, PartialEq, Eq)]
 pub struct Remembered {
     /// The frame's size; there is none where it is 0 or above the largest frame's.
@@ -204,7 +205,7 @@ pub struct Remembered {
 
 impl Remembered {
     /// "at the start none"
-    const NONE: Remembered = Remembered {
+    pub(crate) const NONE: Remembered = Remembered {
         size: 0,
         octets: [0; LARGEST_FRAME],
     };
@@ -220,12 +221,12 @@ impl Remembered {
     /// "An accepted frame marked repeated is a repetition if" it agrees with the remembered one:
     /// "all octets must agree except the repeat bit and the check octet" (R-2). The octets
     /// remembered are compared as they stand, a frame or not.
-    fn is_repeated_by(&self, meaning: &Meaning, octets: &[u8]) -> bool {
+    pub(crate) fn is_repeated_by(&self, meaning: &Meaning, octets: &[u8]) -> bool {
         !meaning.first_sending && self.frame().is_some_and(|frame| agree(frame, octets))
     }
 
     /// "Afterwards the accepted frame is the remembered one."
-    fn remember(&mut self, frame: &[u8]) {
+    pub(crate) fn remember(&mut self, frame: &[u8]) {
         self.octets[..frame.len()].copy_from_slice(frame);
         self.size = frame.len();
     }

@@ -1,6 +1,6 @@
 //! An independent reading of document 01, "Frame layouts", "Refusal numbers", "The coupler" and
-//! "Sites and the tracer", and of document 02, "R-1. Laptop on the line" and "R-2. An increment eaten
-//! as a repetition".
+//! "Sites and the tracer", and of document 02, "R-1. Laptop on the line", "R-2. An increment eaten
+//! as a repetition" and "R-4. Litres that add up".
 //!
 //! It is written from those papers alone and shares nothing with the proved code: the proved
 //! library is compared with it, input by input. A refusal is its number in the papers.
@@ -9,9 +9,11 @@
 pub mod cemi;
 pub mod coupler;
 mod header;
+pub mod leak;
 pub mod refusal;
 pub mod routing;
 pub mod site;
+pub mod station;
 pub mod tp1;
 pub mod tracer;
 pub mod tunnelling;

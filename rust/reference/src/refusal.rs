@@ -42,3 +42,7 @@ pub const FIRST_OCTET: u8 = 19;
 pub const CHANNEL: u8 = 20;
 /// Counter neither the expected one nor one behind; in an acknowledgement, not the send counter.
 pub const COUNTER: u8 = 21;
+/// 7FFFh, which is no number.
+pub const INVALID: u8 = 23;
+/// A sum past the range of the total.
+pub const PAST_TOTAL: u8 = 24;
