@@ -1,8 +1,15 @@
 pub mod Scale
 pub mod Codes
 pub mod Product
+pub mod Distance
 pub mod NearestLaws
+pub mod NearestM
 pub mod Smallest
 pub mod Sides
 pub mod Range
 pub mod Written
+pub mod Chosen
+pub mod Exactly
+pub mod Series
+pub mod Answers
+pub mod Apart

@@ -11,11 +11,7 @@ use mir.Val.{SFits, toZ, ofZ}
 use mir.Facts.{toZ-ofZ, sfits-widen}
 use Rattle.octets.proofs.Truth.{never}
 use borrow.Author.Tests.{lt-leb, le-leb, lt-ltb, le-ltb, ltb-true, ltb-false, leb-true, leb-false, eq-eqb, ne-eqb}
-use Rattle.frame.specs.declared.Refusal.the-variants.{Invalid, PastTotal}
-use Rattle.leak.specs.declared.Added.{Added}
-use Rattle.leak.specs.declared.Added.the-variants.{Sum, Refused}
-use Rattle.leak.specs.Float.{hundredthsOf}
-use Rattle.leak.specs.Total.{inTotal, addTo}
+use Rattle.leak.specs.Total.{inTotal}
 use Rattle.leak.proofs.Codes.{sub-above, sub-below}
 
 -- the greatest number of 64 bits; the least is -1 less it
@@ -139,17 +135,3 @@ module _ (t v : ℤ) (f : SFits w64 t) (g : SFits w32 v) where
 
   pub sum-back : inTotal (t +ℤ v) ≡ true → toZ w64 (ofZ w64 (toZ w64 (ofZ w64 t) +ℤ toZ w64 (ofZ w64 (toZ w32 (ofZ w32 v))))) ≡ t +ℤ v
   sum-back h = toZ-ofZ (sum-fits h) ∙ sum-is
-
--- the three answers
-module _ (t : ℤ) (c : ℕ) where
-  pub answer-invalid : c ≡ 0x7FFF → addTo t c ≡ Refused Invalid
-  unfolding addTo
-  answer-invalid e = rw (eq-eqb c 0x7FFF e)
-
-  pub answer-past : (c ≡ 0x7FFF → ⊥) → inTotal (t +ℤ hundredthsOf c) ≡ false → addTo t c ≡ Refused PastTotal
-  unfolding addTo
-  answer-past n e = rw (ne-eqb c 0x7FFF n, e)
-
-  pub answer-sum : (c ≡ 0x7FFF → ⊥) → inTotal (t +ℤ hundredthsOf c) ≡ true → addTo t c ≡ Sum (t +ℤ hundredthsOf c)
-  unfolding addTo
-  answer-sum n e = rw (ne-eqb c 0x7FFF n, e)

@@ -1,5 +1,4 @@
--- What the writer writes, read back: it is M times 2 to the E, off by at most half of 2 to the E; and what was read is written as a code of
--- the same value.
+-- What the writer writes, read back, is M times 2 to the E; and what was read is written as a code of the same value.
 use Prim.Native.Nat.{ℕ, zero, suc, _+_, _-_, _*_, _/_, _%_, _^_, _≤_, _<_}
 use mathlib.Core.Bool.{Bool, true, false, cond, not, _&&_}
 use mathlib.Core.Path.{_≡_, refl, sym, ap, _∙_, subst}
@@ -18,7 +17,8 @@ use Rattle.leak.specs.Reading.{readCode}
 use Rattle.leak.specs.Writing.{nearestTo, nearestM, fitsM, smallestE, codeOf, codeFor, writeCode}
 use Rattle.leak.specs.Stages.{exponentUnder}
 use Rattle.leak.proofs.Codes.{sub-above, sub-below, mantissa-plus, mantissa-minus}
-use Rattle.leak.proofs.NearestLaws.{Near, nearest-near, nearest-exact}
+use Rattle.leak.proofs.Distance.{times-minus}
+use Rattle.leak.proofs.NearestLaws.{nearest-exact}
 use Rattle.leak.proofs.Smallest.{smallest-plus, smallest-minus, exponent-most, exponent-before, exponent-meets, exponent-some, plus-meets, minus-meets}
 
 -- ---- the value of the code of M and E
@@ -77,48 +77,6 @@ smallest-none (negsuc a) e h = not-of (nearestTo (suc a) (2 ^ e)) (exponent-befo
 pub written-is : (z : ℤ) → Reach z → hundredthsOf (codeFor z) ≡ nearestM z (smallestE z) *ℤ pos (2 ^ smallestE z)
 unfolding codeFor
 written-is z r = value-is (nearestM z (smallestE z)) (smallestE z) (smallest-fits z r) (smallest-most z)
-
--- ---- "the result is off by at most half of 2 to the E"
-
-abs-sub : (x y n : ℕ) → x ≤ y + n → y ≤ x + n → natAbs (subℕ x y) ≤ n
-abs-sub x y n h k = go (ltb x y) refl
-  where
-    go : (b : Bool) → ltb x y ≡ b → natAbs (cond b (negsuc (y - suc x)) (pos (x - y))) ≤ n
-    go true p = let l = ltb-true x y p in omega arith
-    go false p = let l = ltb-false x y p in omega arith
-
-abs-plus : (x y n : ℕ) → x ≤ y + n → y ≤ x + n → natAbs (pos x -ℤ pos y) ≤ n
-abs-plus x zero n h k = omega arith
-abs-plus x (suc y) n h k = abs-sub x (suc y) n h k
-
-abs-minus : (x y n : ℕ) → x ≤ suc y + n → suc y ≤ x + n → natAbs (negℤ (pos x) -ℤ negsuc y) ≤ n
-abs-minus zero y n h k = omega arith
-abs-minus (suc x) y n h k = abs-sub (suc y) (suc x) n k h
-
-times-minus : (q p : ℕ) → negℤ (pos q) *ℤ pos p ≡ negℤ (pos (q * p))
-times-minus zero p = ap pos (omega arith) ∙ ap (λ (n : ℕ). negℤ (pos n)) (zero-times p)
-  where
-    zero-times : (p : ℕ) → 0 ≡ 0 * p
-    zero-times p = omega arith
-times-minus (suc q) p = refl
-
-half : (a p q : ℕ) → Near a p q → (q * p ≤ a + p / 2) × (a ≤ q * p + p / 2)
-half a p q n = (omega (arith, n .above), omega (arith, n .below))
-
-pub off-by : (z : ℤ) (e : ℕ) → natAbs (nearestM z e *ℤ pos (2 ^ e) -ℤ z) ≤ 2 ^ e / 2
-off-by (pos a) e =
-    let h = half a (2 ^ e) (nearestTo a (2 ^ e)) (nearest-near a (2 ^ e) (pow-pos e)) in
-    abs-plus (nearestTo a (2 ^ e) * 2 ^ e) a (2 ^ e / 2) (h .0) (h .1)
-off-by (negsuc a) e =
-    let h = half (suc a) (2 ^ e) (nearestTo (suc a) (2 ^ e)) (nearest-near (suc a) (2 ^ e) (pow-pos e)) in
-    rw (times-minus (nearestTo (suc a) (2 ^ e)) (2 ^ e)) (abs-minus (nearestTo (suc a) (2 ^ e) * 2 ^ e) a (2 ^ e / 2) (h .0) (h .1))
-
-pub written-off : (z : ℤ) → Reach z → natAbs (hundredthsOf (codeFor z) -ℤ z) ≤ 2 ^ smallestE z / 2
-written-off z r = rw (written-is z r) (off-by z (smallestE z))
-
--- in the paper's words: twice the distance is at most 2 to the E
-pub written-half : (z : ℤ) → Reach z → natAbs (hundredthsOf (codeFor z) -ℤ z) * 2 ≤ 2 ^ smallestE z
-written-half z r = let h = written-off z r in omega arith
 
 -- ---- what was read, written again, has the same value
 

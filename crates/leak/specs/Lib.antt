@@ -1,6 +1,7 @@
 pub mod Float
 pub mod Reading
 pub mod Writing
+pub mod Nearest
 pub mod Increment
 pub mod Total
 pub mod Series

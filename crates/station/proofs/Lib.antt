@@ -1,0 +1,4 @@
+pub mod Apart
+pub mod Exactly
+pub mod Series
+pub mod Answers

@@ -7,7 +7,8 @@ use mir.Syntax.{w32}
 use mir.Val.{SFits}
 use Rattle.leak.specs.declared.Added.the-variants.{Sum}
 use Rattle.leak.specs.Total.{inTotal}
-use Rattle.leak.proofs.Range.{wide-fits, asked-is, sum-fits, sum-back, answer-invalid, answer-past, answer-sum}
+use Rattle.leak.proofs.Exactly.{add-invalid, add-past, add-within}
+use Rattle.leak.proofs.Range.{wide-fits, asked-is, sum-fits, sum-back}
 use borrow.Author.Needs.{needs}
 use Rattle.leak.proofs.add.Statement.{statement}
 use Rattle.leak.proofs.add.Tie as tie
@@ -27,7 +28,7 @@ add-sum c =
     sum-fits (start .args .total) v (start .fits .total) g (sym h)
 
 returns : tie.Need-returns
-returns c = sym (answer-invalid (c .before .args .total) (c .before .args .code) (c .if1 .taken))
+returns c = sym (add-invalid (c .before .args .total) (c .before .args .code) (c .if1 .taken))
 
 returns-2 : tie.Need-returns-2
 returns-2 c =
@@ -38,7 +39,7 @@ returns-2 c =
     let g : SFits w32 v = record { sfits = read .hundredths .ok } in
     let h = asked-is t v (start .fits .total) g true (sym (c .if2 .taken) ∙ c .before .stays .ensures) in
     ap Sum (sum-back t v (start .fits .total) g (sym h) ∙ ap (λ (z : ℤ). t +ℤ z) (read .hundredths .ensures))
-    ∙ sym (answer-sum t (start .args .code) (read .before .if1 .left) (rw (read .hundredths .ensures) at (sym h)))
+    ∙ sym (add-within t (start .args .code) (read .before .if1 .left) (rw (read .hundredths .ensures) at (sym h)))
 
 returns-3 : tie.Need-returns-3
 returns-3 c =
@@ -48,7 +49,7 @@ returns-3 c =
     let v = read .hundredths .result in
     let g : SFits w32 v = record { sfits = read .hundredths .ok } in
     let h = asked-is t v (start .fits .total) g false (sym (c .if2 .left) ∙ c .before .stays .ensures) in
-    sym (answer-past t (start .args .code) (read .before .if1 .left) (rw (read .hundredths .ensures) at (sym h)))
+    sym (add-past t (start .args .code) (read .before .if1 .left) (rw (read .hundredths .ensures) at (sym h)))
 
 pub add-spec : {M : Type 1} → statement M
 add-spec = tie.close (tie.spec (λ c κs. search needs) cast-value (λ c κs. search needs) add-sum returns returns-2 returns-3)
