@@ -5,6 +5,8 @@ pub mod ChannelsInside
 pub mod Bits
 pub mod SignedBits
 pub mod LitresLaws
+pub mod LitresNumbers
+pub mod LineTotal
 pub mod Telling
 pub mod ReaderNumbers
 pub mod WriterNumbers

@@ -105,11 +105,11 @@ module _ (total memory : List ℕ) (group : ℕ) (s : List ℕ) where
       let inner = and-true (isTotal total) (eqb (length memory) 265) (outer .0) in
       (eqb-true (length total) 8 (inner .0), (eqb-true (length memory) 265 (inner .1), ltb-true group 65536 (outer .1)))
 
-  inside-takes : isLent total memory group ≡ true → takenThrough total memory group s ≡ takenBy (totalIn total) group (recalled (rememberedIn memory)) s
+  pub inside-takes : isLent total memory group ≡ true → takenThrough total memory group s ≡ takenBy (totalIn total) group (recalled (rememberedIn memory)) s
   unfolding takenThrough
   inside-takes right = rw right
 
-  inside-not : isLent total memory group ≡ false → takenThrough total memory group s ≡ record { telegram = Refused OutOfRange; total = totalIn total }
+  pub inside-not : isLent total memory group ≡ false → takenThrough total memory group s ≡ record { telegram = Refused OutOfRange; total = totalIn total }
   unfolding takenThrough
   inside-not wrong = rw wrong
 

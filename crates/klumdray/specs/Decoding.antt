@@ -6,6 +6,7 @@ use mathlib.Core.List.{List, [], _∷_}
 use mathlib.Core.Logic.{_↔_}
 use mathlib.Core.Path.{_≡_}
 use lib.Dec.{ltb, leb, eqb}
+use lib.IntN.{ℤ}
 use lib.ListN.{length, take, drop, getD}
 use Rattle.coupler.specs.Step.{acknowledgementNumber}
 use Rattle.coupler.specs.declared.Acknowledgement.the-variants.{Silence, Acknowledged}
@@ -25,7 +26,9 @@ use Rattle.tracer.specs.Listing.{isListed}
 use Rattle.tracer.specs.declared.Traced.{Traced}
 use Rattle.tunnelling.specs.Reading.{channelIn, counterIn}
 use Rattle.tunnelling.specs.declared.Request.{Request}
+use Rattle.leak.specs.Answers.{signedValues}
 use Rattle.klumdray.specs.Channels.{channelSize, openPlace, receivePlace, sendPlace}
+use Rattle.klumdray.specs.Litres.{signedOf, totalIn}
 
 -- so many bits of a number from a bit on, the bit 0 being worth 1: a shift and a mask
 abbrev pub bits : ℕ → ℕ → ℕ → ℕ
@@ -160,6 +163,38 @@ confirmedFrom n = numberedBy n (raisedIn n ∷ [])
 
 abbrev pub writtenFrom : ℕ → Numbered
 writtenFrom n = numberedBy n (writtenIn n ∷ [])
+
+-- klumdray_hundredths: bits 32 to 63, in two's complement
+abbrev pub hundredthsIn : ℕ → ℤ
+hundredthsIn n = signedOf 32 (bits 32 32 n)
+
+-- klumdray_code
+abbrev pub codeIn : ℕ → ℕ
+codeIn n = bits 16 16 n
+
+-- klumdray_is_increment
+abbrev pub isIncrementIn : ℕ → ℕ
+isIncrementIn n = bits 8 1 n
+
+-- klumdray_taken
+abbrev pub takenIn : ℕ → ℕ
+takenIn n = bits 8 8 n
+
+abbrev pub valueFrom : ℕ → Numbered
+valueFrom n = numberedBy n (signedValues (hundredthsIn n))
+
+abbrev pub codedFrom : ℕ → Numbered
+codedFrom n = numberedBy n (codeIn n ∷ [])
+
+abbrev pub carriedFrom : ℕ → Numbered
+carriedFrom n = numberedBy n (cond (eqb (isIncrementIn n) 0) [] (codeIn n ∷ []))
+
+-- the sum is the block's: klumdray_total
+abbrev pub addedFrom : List ℕ → ℕ → Numbered
+addedFrom block n = numberedBy n (signedValues (totalIn block))
+
+abbrev pub telegramFrom : ℕ → Numbered
+telegramFrom n = numberedBy n (cond (eqb (takenIn n) 1) (takenIn n ∷ codeIn n ∷ []) (takenIn n ∷ []))
 
 -- the reason 0 is "the line is reached"
 abbrev pub explanationFrom : ℕ → Numbered

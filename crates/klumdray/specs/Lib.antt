@@ -5,4 +5,5 @@ pub mod Traces
 pub mod Litres
 pub mod Decoding
 pub mod Series
+pub mod LineSeries
 pub mod Stages

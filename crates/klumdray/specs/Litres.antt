@@ -34,9 +34,9 @@ abbrev pub inBits : ℕ → ℤ → ℕ
 inBits width (pos a) = a
 inBits width (negsuc a) = 2 ^ width - suc a
 
--- and the number that 64 bits stand for: less 2 to the 64 where the highest of them is set
-abbrev pub signedOf : ℕ → ℤ
-signedOf bits = subℕ bits (weigh (leb (2 ^ 63) bits) (2 ^ 64))
+-- and the number that so many bits stand for: less 2 to that many where the highest of them is set
+abbrev pub signedOf : ℕ → ℕ → ℤ
+signedOf width bits = subℕ bits (weigh (leb (2 ^ (width - 1)) bits) (2 ^ width))
 
 -- bits 0 to 7 the number, 32 to 63 the hundredths
 abbrev pub valueNumber : Value → ℕ
@@ -66,7 +66,7 @@ abbrev pub bitsIn : List ℕ → ℕ
 bitsIn block = wordAt block 0 * 2 ^ 48 + wordAt block 2 * 2 ^ 32 + wordAt block 4 * 2 ^ 16 + wordAt block 6
 
 unfoldable pub totalIn : List ℕ → ℤ
-totalIn block = signedOf (bitsIn block)
+totalIn block = signedOf 64 (bitsIn block)
 
 -- the fields' octets
 abbrev pub bitsOctets : ℕ → List ℕ

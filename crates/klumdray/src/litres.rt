@@ -23,7 +23,7 @@ fn bits_of(number: i64) -> u64
 }
 
 fn signed_of(bits: u64) -> i64
-    ensures { λ r. ⌜ r ≡ signedOf bits ⌝ }
+    ensures { λ r. ⌜ r ≡ signedOf 64 bits ⌝ }
 {
     if bits < 9223372036854775808 {
         bits as i64

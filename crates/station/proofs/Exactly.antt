@@ -1,21 +1,26 @@
 -- What is counted, and by how much the total rises: the definition's tests one after the other.
-use Prim.Native.Nat.{ℕ}
+use Prim.Native.Nat.{ℕ, _<_}
 use mathlib.Core.Bool.{Bool, true, false}
 use mathlib.Core.List.{List}
 use mathlib.Core.Logic.{_↔_}
-use mathlib.Core.Path.{_≡_, refl, sym, ap, _∙_}
+use mathlib.Core.Path.{_≡_, refl, ap, subst}
 use native.Mathlib.Omega.{arith}
 use lib.IntN.{ℤ, _+ℤ_}
 use Rattle.octets.proofs.Truth.{by-cases}
+use Rattle.octets.proofs.Word.{word-below}
+use Rattle.octets.specs.Octets.{octetAt, Octets}
+use Rattle.octets.specs.Word.{wordAt}
 use Rattle.frame.specs.declared.Meaning.{Meaning}
 use Rattle.frame.specs.declared.Refusal.{Refusal}
+use Rattle.tp1.proofs.RoundTrip.{read-laid}
 use Rattle.tp1.specs.Reading.{readTp1, payloadIn}
 use Rattle.tp1.specs.declared.Tp1Answer.{Tp1Answer}
 use Rattle.tp1.specs.declared.Tp1Answer.the-variants.{Frame, Refused as Unread}
 use Rattle.coupler.specs.Memory.{isRepetition}
+use Rattle.leak.proofs.Apart.{float-one, float-nothing}
 use Rattle.leak.proofs.Series.{sum-is}
 use Rattle.leak.specs.Float.{hundredthsOf}
-use Rattle.leak.specs.Increment.{incrementIn}
+use Rattle.leak.specs.Increment.{isIncrement, incrementIn}
 use Rattle.leak.specs.Total.{addTo}
 use Rattle.leak.specs.declared.Added.{Added}
 use Rattle.leak.specs.declared.Added.the-variants.{Sum, Refused as Unadded}
@@ -60,6 +65,18 @@ module _ (group : ℕ) (remembered s : List ℕ) (code : ℕ) where
   pub comes : Comes group remembered s code → telegramIn group remembered s ≡ Increment code
   unfolding telegramIn telegramBy
   comes c = rw (c .read, c .to, c .new, c .carries)
+
+  -- its code has 16 bits
+  pub code-small : Octets s → telegramIn group remembered s ≡ Increment code → code < 65536
+  unfolding incrementIn
+  code-small o e =
+      let c = recognised e in
+      let p : List ℕ = payloadIn (Frame (c .meaning)) s in
+      let octets : Octets p = read-laid s (c .meaning) o (c .read) .valid .octets in
+      let small : wordAt p 2 < 65536 = word-below (octetAt p 2) (octetAt p 3) (octets 2) (octets 3) in
+      by-cases (isIncrement p)
+      (λ i. subst (λ (n : ℕ). n < 65536) (float-one (rw i at (c .carries))) small)
+      (λ i. float-nothing (rw i at (c .carries)))
 
 -- counted: what comes, and adding takes it
 module _ (total : ℤ) (group : ℕ) (remembered s : List ℕ) where
