@@ -143,3 +143,11 @@ module _ (total memory : List ℕ) (group : ℕ) (s : List ℕ) where
         counted = ap (λ (x : Tally). totalTaken (x .total) (x .telegram) total) e;
         remembered = ap (λ (x : Tally). memoryTaken (x .telegram) memory s) e;
       }
+
+-- two outcomes that a contract allows coincide
+pub added-through-one : {block : List ℕ} {code r₁ r₂ : ℕ} {b₁ b₂ : List ℕ} → AddedThrough block code r₁ b₁ → AddedThrough block code r₂ b₂ → (r₁ ≡ r₂) × (b₁ ≡ b₂)
+added-through-one x y = (x .answers ∙ sym (y .answers), x .counted ∙ sym (y .counted))
+
+pub took-frame-one : {total memory s : List ℕ} {group r₁ r₂ : ℕ} {t₁ t₂ m₁ m₂ : List ℕ}
+    → TookFrame total memory group s r₁ t₁ m₁ → TookFrame total memory group s r₂ t₂ m₂ → (r₁ ≡ r₂) × ((t₁ ≡ t₂) × (m₁ ≡ m₂))
+took-frame-one x y = (x .answers ∙ sym (y .answers), (x .counted ∙ sym (y .counted), x .remembered ∙ sym (y .remembered)))

@@ -13,6 +13,7 @@ use Rattle.tracer.proofs.ListedBy.{traced-one}
 use Rattle.report.proofs.ReportLaws.{reported-one}
 use Rattle.klumdray.proofs.Surface.{wrote-number-one, traced-through-one}
 use Rattle.klumdray.proofs.BlockLaws.{stepped-one}
+use Rattle.klumdray.proofs.LitresLaws.{added-through-one, took-frame-one}
 use Rattle.klumdray.proofs.ChannelLaws.{took-through-one, sent-through-one, confirmed-through-one}
 use Rattle.promises.proofs.Stated.{Stated, StatedBy, SamePart}
 use Rattle.octets.proofs.octet.Kinds as octets-octet-kinds
@@ -187,6 +188,34 @@ use Rattle.klumdray.proofs.klumdray_tunnelling_send.Kinds as klumdray-tunnellin
 use Rattle.klumdray.proofs.klumdray_tunnelling_send.Reads as klumdray-tunnelling-send-reads
 use Rattle.klumdray.proofs.klumdray_tunnelling_confirm.Kinds as klumdray-tunnelling-confirm-kinds
 use Rattle.klumdray.proofs.klumdray_tunnelling_confirm.Reads as klumdray-tunnelling-confirm-reads
+use Rattle.leak.proofs.read.Kinds as leak-read-kinds
+use Rattle.leak.proofs.read.Reads as leak-read-reads
+use Rattle.leak.proofs.read_octets.Kinds as leak-read-octets-kinds
+use Rattle.leak.proofs.read_octets.Reads as leak-read-octets-reads
+use Rattle.leak.proofs.write.Kinds as leak-write-kinds
+use Rattle.leak.proofs.write.Reads as leak-write-reads
+use Rattle.leak.proofs.increment.Kinds as leak-increment-kinds
+use Rattle.leak.proofs.increment.Reads as leak-increment-reads
+use Rattle.leak.proofs.add.Kinds as leak-add-kinds
+use Rattle.leak.proofs.add.Reads as leak-add-reads
+use Rattle.station.proofs.recognise.Kinds as station-recognise-kinds
+use Rattle.station.proofs.recognise.Reads as station-recognise-reads
+use Rattle.station.proofs.take.Kinds as station-take-kinds
+use Rattle.station.proofs.take.Reads as station-take-reads
+use Rattle.coupler.proofs.is_repetition.Kinds as coupler-is-repetition-kinds
+use Rattle.coupler.proofs.is_repetition.Reads as coupler-is-repetition-reads
+use Rattle.klumdray.proofs.klumdray_float_value.Kinds as klumdray-float-value-kinds
+use Rattle.klumdray.proofs.klumdray_float_value.Reads as klumdray-float-value-reads
+use Rattle.klumdray.proofs.klumdray_float_read.Kinds as klumdray-float-read-kinds
+use Rattle.klumdray.proofs.klumdray_float_read.Reads as klumdray-float-read-reads
+use Rattle.klumdray.proofs.klumdray_float_write.Kinds as klumdray-float-write-kinds
+use Rattle.klumdray.proofs.klumdray_float_write.Reads as klumdray-float-write-reads
+use Rattle.klumdray.proofs.klumdray_increment.Kinds as klumdray-increment-kinds
+use Rattle.klumdray.proofs.klumdray_increment.Reads as klumdray-increment-reads
+use Rattle.klumdray.proofs.klumdray_total_add.Kinds as klumdray-total-add-kinds
+use Rattle.klumdray.proofs.klumdray_total_add.Reads as klumdray-total-add-reads
+use Rattle.klumdray.proofs.klumdray_take.Kinds as klumdray-take-kinds
+use Rattle.klumdray.proofs.klumdray_take.Reads as klumdray-take-reads
 
 -- octets
 
@@ -378,6 +407,9 @@ passing-is-own-stated = record { determines = λ κs args r₁ r₂ w₁ w₂ x 
 
 -- coupler
 
+pub coupler-is-repetition-stated : Stated coupler-is-repetition-kinds.ps coupler-is-repetition-kinds.r coupler-is-repetition-reads.Pre coupler-is-repetition-reads.Post (λ κs a. coupler-is-repetition-reads.ensures κs a tt)
+coupler-is-repetition-stated = record { determines = λ κs args r₁ r₂ w₁ w₂ x y. (x ∙ sym y, refl); free = λ κs args. tt; whole = λ κs args r e w. refl }
+
 pub coupler-hand-on-stated : Stated coupler-hand-on-kinds.ps coupler-hand-on-kinds.r coupler-hand-on-reads.Pre coupler-hand-on-reads.Post (λ κs a. coupler-hand-on-reads.ensures κs a tt)
 coupler-hand-on-stated = record { determines = λ κs args r₁ r₂ w₁ w₂ x y. let e = handed-one x y in (e .0, λ i. (tt, (tt, (tt, (tt, (tt, (e .1 i, tt))))))); free = λ κs args. tt; whole = λ κs args r e w. refl }
 
@@ -422,6 +454,31 @@ tracer-why-stated = record { determines = λ κs args r₁ r₂ w₁ w₂ x y. (
 
 pub report-report-stated : Stated report-report-kinds.ps report-report-kinds.r report-report-reads.Pre report-report-reads.Post (λ κs a. report-report-reads.ensures κs a tt)
 report-report-stated = record { determines = λ κs args r₁ r₂ w₁ w₂ x y. let e = reported-one x y in (e .0, λ i. (tt, (e .1 i, tt))); free = λ κs args. tt; whole = λ κs args r e w. refl }
+
+-- leak
+
+pub leak-read-stated : Stated leak-read-kinds.ps leak-read-kinds.r leak-read-reads.Pre leak-read-reads.Post (λ κs a. leak-read-reads.ensures κs a tt)
+leak-read-stated = record { determines = λ κs args r₁ r₂ w₁ w₂ x y. (x ∙ sym y, refl); free = λ κs args. tt; whole = λ κs args r e w. refl }
+
+pub leak-read-octets-stated : Stated leak-read-octets-kinds.ps leak-read-octets-kinds.r leak-read-octets-reads.Pre leak-read-octets-reads.Post (λ κs a. leak-read-octets-reads.ensures κs a tt)
+leak-read-octets-stated = record { determines = λ κs args r₁ r₂ w₁ w₂ x y. (x ∙ sym y, refl); free = λ κs args. tt; whole = λ κs args r e w. refl }
+
+pub leak-write-stated : Stated leak-write-kinds.ps leak-write-kinds.r leak-write-reads.Pre leak-write-reads.Post (λ κs a. leak-write-reads.ensures κs a tt)
+leak-write-stated = record { determines = λ κs args r₁ r₂ w₁ w₂ x y. (x ∙ sym y, refl); free = λ κs args. tt; whole = λ κs args r e w. refl }
+
+pub leak-increment-stated : Stated leak-increment-kinds.ps leak-increment-kinds.r leak-increment-reads.Pre leak-increment-reads.Post (λ κs a. leak-increment-reads.ensures κs a tt)
+leak-increment-stated = record { determines = λ κs args r₁ r₂ w₁ w₂ x y. (x ∙ sym y, refl); free = λ κs args. tt; whole = λ κs args r e w. refl }
+
+pub leak-add-stated : Stated leak-add-kinds.ps leak-add-kinds.r leak-add-reads.Pre leak-add-reads.Post (λ κs a. leak-add-reads.ensures κs a tt)
+leak-add-stated = record { determines = λ κs args r₁ r₂ w₁ w₂ x y. (x ∙ sym y, refl); free = λ κs args. tt; whole = λ κs args r e w. refl }
+
+-- station
+
+pub station-recognise-stated : Stated station-recognise-kinds.ps station-recognise-kinds.r station-recognise-reads.Pre station-recognise-reads.Post (λ κs a. station-recognise-reads.ensures κs a tt)
+station-recognise-stated = record { determines = λ κs args r₁ r₂ w₁ w₂ x y. (x ∙ sym y, refl); free = λ κs args. tt; whole = λ κs args r e w. refl }
+
+pub station-take-stated : Stated station-take-kinds.ps station-take-kinds.r station-take-reads.Pre station-take-reads.Post (λ κs a. station-take-reads.ensures κs a tt)
+station-take-stated = record { determines = λ κs args r₁ r₂ w₁ w₂ x y. (x ∙ sym y, refl); free = λ κs args. tt; whole = λ κs args r e w. refl }
 
 -- klumdray
 
@@ -475,3 +532,21 @@ klumdray-tunnelling-send-stated = record { determines = λ κs args r₁ r₂ w�
 
 pub klumdray-tunnelling-confirm-stated : Stated klumdray-tunnelling-confirm-kinds.ps klumdray-tunnelling-confirm-kinds.r klumdray-tunnelling-confirm-reads.Pre klumdray-tunnelling-confirm-reads.Post (λ κs a. klumdray-tunnelling-confirm-reads.ensures κs a tt)
 klumdray-tunnelling-confirm-stated = record { determines = λ κs args r₁ r₂ w₁ w₂ x y. let e = confirmed-through-one x y in (e .0, λ i. (e .1 i, (tt, tt))); free = λ κs args. tt; whole = λ κs args r e w. refl }
+
+pub klumdray-float-value-stated : Stated klumdray-float-value-kinds.ps klumdray-float-value-kinds.r klumdray-float-value-reads.Pre klumdray-float-value-reads.Post (λ κs a. klumdray-float-value-reads.ensures κs a tt)
+klumdray-float-value-stated = record { determines = λ κs args r₁ r₂ w₁ w₂ x y. (x ∙ sym y, refl); free = λ κs args. tt; whole = λ κs args r e w. refl }
+
+pub klumdray-float-read-stated : Stated klumdray-float-read-kinds.ps klumdray-float-read-kinds.r klumdray-float-read-reads.Pre klumdray-float-read-reads.Post (λ κs a. klumdray-float-read-reads.ensures κs a tt)
+klumdray-float-read-stated = record { determines = λ κs args r₁ r₂ w₁ w₂ x y. (x ∙ sym y, refl); free = λ κs args. tt; whole = λ κs args r e w. refl }
+
+pub klumdray-float-write-stated : Stated klumdray-float-write-kinds.ps klumdray-float-write-kinds.r klumdray-float-write-reads.Pre klumdray-float-write-reads.Post (λ κs a. klumdray-float-write-reads.ensures κs a tt)
+klumdray-float-write-stated = record { determines = λ κs args r₁ r₂ w₁ w₂ x y. (x ∙ sym y, refl); free = λ κs args. tt; whole = λ κs args r e w. refl }
+
+pub klumdray-increment-stated : Stated klumdray-increment-kinds.ps klumdray-increment-kinds.r klumdray-increment-reads.Pre klumdray-increment-reads.Post (λ κs a. klumdray-increment-reads.ensures κs a tt)
+klumdray-increment-stated = record { determines = λ κs args r₁ r₂ w₁ w₂ x y. (x ∙ sym y, refl); free = λ κs args. tt; whole = λ κs args r e w. refl }
+
+pub klumdray-total-add-stated : Stated klumdray-total-add-kinds.ps klumdray-total-add-kinds.r klumdray-total-add-reads.Pre klumdray-total-add-reads.Post (λ κs a. klumdray-total-add-reads.ensures κs a tt)
+klumdray-total-add-stated = record { determines = λ κs args r₁ r₂ w₁ w₂ x y. let e = added-through-one x y in (e .0, λ i. (e .1 i, (tt, tt))); free = λ κs args. tt; whole = λ κs args r e w. refl }
+
+pub klumdray-take-stated : Stated klumdray-take-kinds.ps klumdray-take-kinds.r klumdray-take-reads.Pre klumdray-take-reads.Post (λ κs a. klumdray-take-reads.ensures κs a tt)
+klumdray-take-stated = record { determines = λ κs args r₁ r₂ w₁ w₂ x y. let e = took-frame-one x y in (e .0, λ i. (e .1 .0 i, (e .1 .1 i, (tt, (tt, tt))))); free = λ κs args. tt; whole = λ κs args r e w. refl }

@@ -19,8 +19,14 @@ use Rattle.site.specs.Letting.{recordPasses, lineLetsPass}
 use Rattle.tracer.specs.Lines.{mainSide, depth, mainSides, path, distance}
 use Rattle.tracer.specs.Query.{onArrival}
 use Rattle.tracer.specs.Listing.{lasts, isListed, entry, listed, linesListed, isForwarding, forwardings}
+use Rattle.leak.specs.Float.{mantissaOf, hundredthsOf}
+use Rattle.leak.specs.Increment.{incrementIn}
+use Rattle.leak.specs.Reading.{readCode}
+use Rattle.leak.specs.Total.{inTotal, addTo}
+use Rattle.leak.specs.Writing.{nearestTo, smallestE, codeFor, writeCode}
+use Rattle.station.specs.Taking.{telegramBy, telegramIn, summedBy, takenBy}
 use Rattle.promises.specs.Telegrams.{Every, cases}
 
 pub every : Every cases
-unfolding checkOctet laid isControl controlOf ctrleOf fieldsMeaning head sealed tp1Octets isExtended headSize isOtherFormat isEscape frameSize isChecked meaningIn readTp1 body isOtherBody isEscapeBody isLongStandard bodySize messageIn isOtherHeader isOtherService isOtherLength readRouting classOf isCode isRow areCodes asksTable tableFits isOwn isInTable isBelow isOnward isRuled mayPass kept recalled zeros remembering rememberedOn unmarked agree isRepetition heard acknowledgementBy formOf recordSize firstRecord recordsOf isMarked codesOf couplerOf isStored tableAt tableOf isStore areStores hasTable siteTests recordPasses lineLetsPass mainSide depth mainSides path distance lasts isListed onArrival entry listed linesListed isForwarding forwardings
-every = ((refl, refl), ((refl, refl), ((refl, refl), ((refl, refl), ((refl, refl), ((refl, refl), ((refl, refl), ((refl, refl), ((refl, refl), ((refl, refl), ((refl, refl), ((refl, refl), ((refl, refl), ((refl, refl), ((refl, refl), ((refl, refl), ((refl, refl), (refl, (refl, (refl, (refl, tt)))))))))))))))))))))
+unfolding checkOctet laid isControl controlOf ctrleOf fieldsMeaning head sealed tp1Octets isExtended headSize isOtherFormat isEscape frameSize isChecked meaningIn readTp1 body isOtherBody isEscapeBody isLongStandard bodySize messageIn isOtherHeader isOtherService isOtherLength readRouting classOf isCode isRow areCodes asksTable tableFits isOwn isInTable isBelow isOnward isRuled mayPass kept recalled zeros remembering rememberedOn unmarked agree isRepetition heard acknowledgementBy formOf recordSize firstRecord recordsOf isMarked codesOf couplerOf isStored tableAt tableOf isStore areStores hasTable siteTests recordPasses lineLetsPass mainSide depth mainSides path distance lasts isListed onArrival entry listed linesListed isForwarding forwardings mantissaOf hundredthsOf incrementIn readCode inTotal addTo nearestTo smallestE codeFor writeCode telegramBy telegramIn summedBy takenBy
+every = ((refl, refl), ((refl, refl), ((refl, refl), ((refl, refl), ((refl, refl), ((refl, refl), ((refl, refl), ((refl, refl), ((refl, refl), ((refl, refl), ((refl, refl), ((refl, refl), ((refl, refl), ((refl, refl), ((refl, refl), ((refl, refl), ((refl, refl), (refl, (refl, (refl, (refl, (refl, (refl, (refl, (refl, (refl, (refl, (refl, (refl, (refl, (refl, (refl, (refl, (refl, (refl, tt)))))))))))))))))))))))))))))))))))

@@ -1,9 +1,10 @@
--- Document 01, "Telegrams to check against": the cases marked P; and those that document 02 adds, R-2's. As one list.
+-- Document 01, "Telegrams to check against": the cases marked P; and those that document 02 adds, R-2's and R-4's. As one list.
 use Prim.Native.Nat.{ℕ, _/_}
 use mathlib.Core.Bool.{true, false, cond}
 use mathlib.Core.List.{List, [], _∷_, _++_, map}
 use mathlib.Core.Path.{_≡_}
 use lib.Dec.{eqb}
+use lib.IntN.{ℤ, pos, negsuc}
 use lib.ListN.{length, take, replicate}
 use Rattle.passing.specs.Passing.{tableOctet, tableBit}
 use Rattle.coupler.specs.Setting.{settingOf}
@@ -13,6 +14,14 @@ use Rattle.coupler.specs.Step.{Coupler, couplerBy, outcomeOf, sent, acknowledge
 use Rattle.frame.specs.Order.{firstOf}
 use Rattle.frame.specs.declared.Verdict.{Verdict}
 use Rattle.frame.specs.Answers.{Numbered, accepted, meaningValues}
+use Rattle.frame.specs.declared.Refusal.the-variants.{WrongCheck}
+use Rattle.leak.specs.Answers.{signedValues, valueNumbered, codedNumbered, addedNumbered}
+use Rattle.leak.specs.Reading.{readCode}
+use Rattle.leak.specs.Total.{addTo}
+use Rattle.leak.specs.Writing.{writeCode}
+use Rattle.station.specs.Series.{takes}
+use Rattle.station.specs.declared.Tally.{Tally}
+use Rattle.station.specs.declared.Telegram.the-variants.{Increment, Repetition, OtherGroup, Refused}
 use Rattle.site.specs.Stores.{stores}
 use Rattle.tp1.specs.Answers.{tp1Numbered}
 use Rattle.tp1.specs.Reading.{payloadIn, readTp1}
@@ -36,6 +45,10 @@ infix 20 _hears_and_
 infix 20 _hears-in-turn_and_
 infix 20 bit_is_of_
 infix 20 _on_lists_by_
+infix 20 code_is_
+infix 20 hundredths_are_
+infix 20 total_with_is_
+infix 20 station_hears-in-turn_and_
 pub data Case : Type 0 where
   -- these octets, read as a TP1 frame: number and values, and the payload handed out
   tp1_is_with_ : List ℕ → Numbered → List ℕ → Case
@@ -47,6 +60,12 @@ pub data Case : Type 0 where
   bit_is_of_ : ℕ → ℕ → ℕ → Case
   -- this query on this site: the list, and the forwardings made
   _on_lists_by_ : Query → List ℕ → List ℕ → ℕ → Case
+  -- these two octets as a code, read as hundredths; these hundredths written; this code added to this total: number and values
+  code_is_ : ℕ → Numbered → Case
+  hundredths_are_ : ℤ → Numbered → Case
+  total_with_is_ : ℤ → ℕ → Numbered → Case
+  -- a station of this group, its total 0 and remembering nothing, given these octets one after the other: what each is, and the total then
+  station_hears-in-turn_and_ : ℕ → List (List ℕ) → List Tally → Case
 
 abbrev pub does : Coupler → List ℕ → Does
 does k s = sends (acknowledgementNumber (outcomeOf k [] s 272 .acknowledgement)) (sent k [] s 272)
@@ -76,6 +95,10 @@ Holds (k hears-in-turn ss and ds) = map doing (series noMemory (given k ss)) ≡
 Holds (bit g is b of o) = (tableBit g ≡ b) × (tableOctet g ≡ o)
 Holds (q on site lists l by n) =
     (tracedBy (stores [] []) site q (asked q site) ≡ record { number = 0; lines = length l / 3; forwardings = n }) × (listBy (stores [] []) site q (asked q site) ≡ l)
+Holds (code c is n) = valueNumbered (readCode c) ≡ n
+Holds (hundredths z are n) = codedNumbered (writeCode z) ≡ n
+Holds (total t with c is n) = addedNumbered (addTo t c) ≡ n
+Holds (station g hears-in-turn ss and ts) = takes g (pos 0) [] ss ≡ ts
 
 abbrev pub Every : List Case → Type 0
 Every [] = Unit {0}
@@ -220,5 +243,62 @@ R2d =
     meterCoupler hears-in-turn telegramOne ∷ (0xBC ∷ 0x47 ∷ 0x15 ∷ 0x12 ∷ 0x34 ∷ 0xE3 ∷ 0x00 ∷ 0x80 ∷ 0x4C ∷ 0x1B ∷ 0x43 ∷ []) ∷ twoRepeated ∷ twoRepeated ∷ []
     and sends 0xCC oneForwarded ∷ refuses 6 ∷ sends 0xCC twoForwarded ∷ sends 0xCC [] ∷ []
 
+-- Document 02, R-4: "0C1Ah is 2,100; 87FFh is -1; F800h is -67,108,864"; "7FFFh is invalid and refused (23)"
+abbrev pub R4a : Case
+R4a = code 0x0C1A is accepted (signedValues (pos 2100))
+
+abbrev pub R4b : Case
+R4b = code 0x87FF is accepted (signedValues (negsuc 0))
+
+abbrev pub R4c : Case
+R4c = code 0xF800 is accepted (signedValues (negsuc 67108863))
+
+abbrev pub R4d : Case
+R4d = code 0x7FFF is refusedBy 23
+
+-- "hundredths from -67,108,864 to 67,043,328, else refuses (14)"
+abbrev pub R4e : Case
+R4e = hundredths negsuc 67108863 are accepted (0xF800 ∷ [])
+
+abbrev pub R4f : Case
+R4f = hundredths pos 67043328 are accepted (0x7FFE ∷ [])
+
+abbrev pub R4g : Case
+R4g = hundredths negsuc 67108864 are refusedBy 14
+
+abbrev pub R4h : Case
+R4h = hundredths pos 67043329 are refusedBy 14
+
+-- "the smallest E for which the nearest M, ties to even M, fits": 4,095 is a tie at E = 1 and goes to 2,048, which does not fit; -4,097 is one that
+-- goes to -2,048, which fits
+abbrev pub R4i : Case
+R4i = hundredths pos 4095 are accepted (0x1400 ∷ [])
+
+abbrev pub R4j : Case
+R4j = hundredths negsuc 4096 are accepted (0x8800 ∷ [])
+
+-- "a sum past the range is refused (24)"
+abbrev pub R4k : Case
+R4k = total pos 9223372036854773707 with 0x0C1A is accepted (signedValues (pos 9223372036854775807))
+
+abbrev pub R4l : Case
+R4l = total pos 9223372036854773708 with 0x0C1A is refusedBy 24
+
+abbrev pub R4m : Case
+R4m = total pos 5 with 0x7FFF is refusedBy 23
+
+-- the meter's telegrams as a station on its line takes them: the first, its repeat, the second damaged, its repeat, and one to group 1235h
+abbrev pub R4n : Case
+R4n =
+    station 0x1234 hears-in-turn
+    telegramOne ∷ oneRepeated ∷ (0xBC ∷ 0x47 ∷ 0x15 ∷ 0x12 ∷ 0x34 ∷ 0xE3 ∷ 0x00 ∷ 0x80 ∷ 0x4C ∷ 0x1B ∷ 0x43 ∷ []) ∷ twoRepeated ∷ (0xBC ∷ 0x47 ∷ 0x15 ∷ 0x12 ∷ 0x35 ∷ 0xE3 ∷ 0x00 ∷ 0x80 ∷ 0x0C ∷ 0x1A ∷ 0x43 ∷ []) ∷ []
+    and
+    record { telegram = Increment 0x0C1A; total = pos 2100 }
+    ∷ record { telegram = Repetition; total = pos 2100 }
+    ∷ record { telegram = Refused WrongCheck; total = pos 2100 }
+    ∷ record { telegram = Increment 0x0C1B; total = pos 4202 }
+    ∷ record { telegram = OtherGroup; total = pos 4202 }
+    ∷ []
+
 abbrev pub cases : List Case
-cases = P1 ∷ P2 ∷ P3 ∷ P4 ∷ P5 ∷ P6 ∷ P7 ∷ P8 ∷ P9 ∷ P10 ∷ P11a ∷ P11b ∷ P12a ∷ P12b ∷ P12c ∷ P13a ∷ P13b ∷ R2a ∷ R2b ∷ R2c ∷ R2d ∷ []
+cases = P1 ∷ P2 ∷ P3 ∷ P4 ∷ P5 ∷ P6 ∷ P7 ∷ P8 ∷ P9 ∷ P10 ∷ P11a ∷ P11b ∷ P12a ∷ P12b ∷ P12c ∷ P13a ∷ P13b ∷ R2a ∷ R2b ∷ R2c ∷ R2d ∷ R4a ∷ R4b ∷ R4c ∷ R4d ∷ R4e ∷ R4f ∷ R4g ∷ R4h ∷ R4i ∷ R4j ∷ R4k ∷ R4l ∷ R4m ∷ R4n ∷ []

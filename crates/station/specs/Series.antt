@@ -16,6 +16,13 @@ Follows group total remembered (s ∷ ss) [] = ⊥
 Follows group total remembered (s ∷ ss) (t ∷ ts) =
     (t ≡ takenBy total group remembered s) × Follows group (t .total) (keptBy (t .telegram) remembered s) ss ts
 
+-- what taking gives, one after the other
+abbrev pub takes : ℕ → ℤ → List ℕ → List (List ℕ) → List Tally
+takes group total remembered [] = []
+takes group total remembered (s ∷ ss) =
+    let t = takenBy total group remembered s in
+    t ∷ takes group (t .total) (keptBy (t .telegram) remembered s) ss
+
 -- the total that the last answer has left
 abbrev pub left : ℤ → List Tally → ℤ
 left total [] = total
