@@ -101,7 +101,7 @@ acknowledged-iff k remembered s m p = go (not (fromIp k)) (isForItself k m || is
 
 -- "Afterwards the accepted frame is the remembered one": what its side recalls then is the frame, and the other side recalls what it did
 
-recalls : (r : Remembered) (s : List ℕ) → length (r .octets) ≡ 263 → length s ≤ 263 → recalled (remembering r s) ≡ s
+pub recalls : (r : Remembered) (s : List ℕ) → length (r .octets) ≡ 263 → length s ≤ 263 → recalled (remembering r s) ≡ s
 unfolding recalled kept remembering
 recalls r s n k = rw (le-leb (length s) 263 k, laid-front s (r .octets) (omega arith)) (take-at s (drop (length s) (r .octets)) (length s) refl)
 

@@ -10,8 +10,8 @@ use lib.ListN.{length, take, drop}
 use mathlib.Core.List.{append-nil}
 use lib.Seq.{drop-length}
 use borrow.Author.Tests.{eqb-true, ltb-true}
-use Rattle.octets.proofs.Room.{laid-front}
-use Rattle.octets.proofs.Truth.{and-true}
+use Rattle.octets.proofs.Room.{laid-front, laid-length}
+use Rattle.octets.proofs.Truth.{by-cases, never, and-true}
 use Rattle.octets.specs.Octets.{Octets}
 use Rattle.octets.specs.Room.{laid}
 use Rattle.frame.specs.declared.Meaning.{Meaning}
@@ -20,7 +20,9 @@ use Rattle.tp1.specs.Reading.{readTp1}
 use Rattle.tp1.specs.declared.Tp1Answer.{Tp1Answer}
 use Rattle.tp1.specs.declared.Tp1Answer.the-variants.{Frame, Refused as Unread}
 use Rattle.coupler.proofs.StepLaws.{tp1-most}
-use Rattle.coupler.specs.Memory.{recalled}
+use Rattle.coupler.proofs.Promised.{recalls}
+use Rattle.coupler.specs.Memory.{recalled, remembering}
+use Rattle.coupler.specs.declared.Remembered.{Remembered}
 use Rattle.leak.specs.Total.{addTo}
 use Rattle.leak.specs.declared.Added.{Added}
 use Rattle.leak.specs.declared.Added.the-variants.{Sum, Refused as Unadded}
@@ -28,10 +30,11 @@ use Rattle.station.specs.Taking.{telegramIn, telegramFor, countedBy, takenBy}
 use Rattle.station.specs.declared.Telegram.{Telegram}
 use Rattle.station.specs.declared.Telegram.the-variants.{Increment, Repetition, OtherGroup, NoIncrement, Refused}
 use Rattle.station.specs.declared.Tally.{Tally}
-use Rattle.klumdray.specs.Block.{rememberedIn}
+use Rattle.klumdray.specs.Block.{rememberedIn, halfOf}
 use Rattle.klumdray.specs.Litres.{isTotal, totalIn, totalOctets, addedNumber, blockAdded, addedThrough, AddedThrough, telegramNumber, memoryTaken, totalTaken, isLent, takenThrough, TookFrame}
 use Rattle.klumdray.specs.Stages.{keptIn, rememberedAt, sumLaid, takenLaid, isAccepted}
 use Rattle.klumdray.proofs.BlockLaws.{half-remembered, half-recalled}
+use Rattle.klumdray.proofs.Remembered.{half-read, octets-263}
 
 -- a total fills its block
 whole : (z : ℤ) (block : List ℕ) → length block ≡ 8 → laid (totalOctets z) 0 block ≡ totalOctets z
@@ -143,6 +146,43 @@ module _ (total memory : List ℕ) (group : ℕ) (s : List ℕ) where
         counted = ap (λ (x : Tally). totalTaken (x .total) (x .telegram) total) e;
         remembered = ap (λ (x : Tally). memoryTaken (x .telegram) memory s) e;
       }
+
+-- what is not refused was read as a frame, so that it fits
+accepted-size : (total : ℤ) (group : ℕ) (remembered s : List ℕ) → Octets s → isAccepted (takenBy total group remembered s .telegram) ≡ true → length s ≤ 263
+unfolding takenBy telegramIn
+accepted-size total group remembered s o = go (readTp1 s) refl
+  where
+    go : (a : Tp1Answer) → readTp1 s ≡ a → isAccepted (countedBy total (telegramFor group remembered s a) .telegram) ≡ true → length s ≤ 263
+    go (Frame m) e x = tp1-most s m o e
+    go (Unread r) e x = never (sym x)
+
+-- and is the remembered frame then
+kept-recalled : (memory s : List ℕ) → length memory ≡ 265 → length s ≤ 263 → recalled (rememberedIn (halfOf (remembering (rememberedIn memory) s))) ≡ s
+unfolding remembering
+kept-recalled memory s n k =
+    let r : Remembered = rememberedIn memory in
+    let size : length (r .octets) ≡ 263 = octets-263 memory n in
+    let after : length (laid s 0 (r .octets)) ≡ 263 = laid-length s 0 (r .octets) (omega (arith, size)) ∙ size in
+    ap recalled (half-read (remembering r s) after) ∙ recalls r s size k
+
+pub taken-remembered : (total memory : List ℕ) (group : ℕ) (s : List ℕ) {answer : ℕ} {total′ memory′ : List ℕ} → Octets s → TookFrame total memory group s answer total′ memory′
+    → isAccepted (takenThrough total memory group s .telegram) ≡ true → recalled (rememberedIn memory′) ≡ s
+taken-remembered total memory group s {memory′ = memory′} o w a =
+    by-cases (isLent total memory group)
+    (λ right.
+    let inner = takenBy (totalIn total) group (recalled (rememberedIn memory)) s in
+    let accepted : isAccepted (inner .telegram) ≡ true = subst (λ (x : Tally). isAccepted (x .telegram) ≡ true) (inside-takes total memory group s right) a in
+    let k = accepted-size (totalIn total) group (recalled (rememberedIn memory)) s o accepted in
+    let n = lent-fits total memory group s right .1 .0 in
+    ap (λ (l : List ℕ). recalled (rememberedIn l)) (w .remembered ∙ held (takenThrough total memory group s .telegram) a) ∙ kept-recalled memory s n k)
+    (λ wrong. never (sym (subst (λ (x : Tally). isAccepted (x .telegram) ≡ true) (inside-not total memory group s wrong) a)))
+  where
+    held : (t : Telegram) → isAccepted t ≡ true → memoryTaken t memory s ≡ halfOf (remembering (rememberedIn memory) s)
+    held (Increment code) e = refl
+    held Repetition e = refl
+    held OtherGroup e = refl
+    held NoIncrement e = refl
+    held (Refused r) e = never (sym e)
 
 -- two outcomes that a contract allows coincide
 pub added-through-one : {block : List ℕ} {code r₁ r₂ : ℕ} {b₁ b₂ : List ℕ} → AddedThrough block code r₁ b₁ → AddedThrough block code r₂ b₂ → (r₁ ≡ r₂) × (b₁ ≡ b₂)

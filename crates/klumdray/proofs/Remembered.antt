@@ -85,7 +85,7 @@ module _ (block : List ℕ) (side : ℕ) (n : length block ≡ 530) (h : side < 
 half-length : (r : Remembered) → length (r .octets) ≡ 263 → length (halfOf r) ≡ 265
 half-length r n = omega arith
 
-half-read : (r : Remembered) → length (r .octets) ≡ 263 → rememberedIn (halfOf r) ≡ r
+pub half-read : (r : Remembered) → length (r .octets) ≡ 263 → rememberedIn (halfOf r) ≡ r
 half-read r n =
     let o : take 263 (r .octets) ≡ r .octets = take-all 263 (r .octets) (omega arith) in
     let w : wordAt (halfOf r) 0 ≡ r .size = word-back (r .size) in
@@ -103,7 +103,7 @@ module _ (m : Memory) (r : Roomy m) where
       let y : drop 265 (blockOf m) ≡ halfOf (m .sub) = drop-at (halfOf (m .main)) (halfOf (m .sub)) 265 (half-length (m .main) (r .main)) in
       λ i. record { main = (ap rememberedIn x ∙ half-read (m .main) (r .main)) i; sub = (ap rememberedIn y ∙ half-read (m .sub) (r .sub)) i }
 
-octets-263 : (half : List ℕ) → length half ≡ 265 → length (rememberedIn half .octets) ≡ 263
+pub octets-263 : (half : List ℕ) → length half ≡ 265 → length (rememberedIn half .octets) ≡ 263
 octets-263 half n = length-take-le 263 (drop 2 half) (rw length-drop (omega arith))
 
 pub block-roomy : (block : List ℕ) → length block ≡ 530 → Roomy (memoryIn block)
