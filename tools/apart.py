@@ -31,7 +31,8 @@ Export = namedtuple("Export", "answer kinds written")
 EXTERN = re.compile(r'\bextern\s*"')
 EXPORTED = re.compile(r'^pub extern "C" fn (\w+)(?:<[^<>]*>)?\(([^()]*)\) -> (\w+)$', re.M)
 LENT = re.compile(r"\w+: &(?:'\w+ )?(mut )?\[u8\]")
-NUMBER = re.compile(r"\w+: u32")
+NUMBER = re.compile(r"\w+: (u32|i64)")
+NUMBERS = {"u32": "i32", "i64": "i64"}
 ANSWERS = {"u32": "i32", "u64": "i64"}
 
 DEFINED = re.compile(r"\s*define\b")
@@ -49,12 +50,12 @@ def export(name, inside, answer):
     for part in inside.split(","):
         # Behind the last comma there is none.
         part = part.strip()
-        lent = LENT.fullmatch(part)
+        lent, number = LENT.fullmatch(part), NUMBER.fullmatch(part)
         if lent:
             written += [len(kinds)] if lent[1] else []
             kinds += ["ptr", "i64"]
-        elif NUMBER.fullmatch(part):
-            kinds.append("i32")
+        elif number:
+            kinds.append(NUMBERS[number[1]])
         elif part:
             raise Refused(f"{name}: its signature has a parameter of another kind, {part}")
     if answer not in ANSWERS:

@@ -44,23 +44,31 @@ Call = namedtuple("Call", "answer name parameters lines")
 # The refusal of an overlap: a number given by the caller, here an address, is outside its range.
 OVERLAP = 14
 
+# What is said of 0, and of a number that no row has.
+ACCEPTED, NO_NUMBER = "not a refusal", "not a number of these calls"
+
 ROW = re.compile(r"^-- (.*)\nnumber (\w+) = (\d+)$", re.M)
+NUMBERED = re.compile(r"^number .*= ", re.M)
 LAST = re.compile(r"^lastNumber = (\d+)$", re.M)
 DECLARED = re.compile(r"^(uint\d+_t) (klumdray_\w+)\(([^()]*)\);$", re.M)
 PARAMETER = re.compile(r"(const uint8_t \*|uint8_t \*|\w+ )(\w+)")
 EXPORTED = re.compile(r'^pub extern "C" fn (klumdray_\w+)(?:<[^>]*>)?\(([^()]*)\) -> (\w+)', re.M)
 
-RUST = {"const uint8_t *": "*const u8", "uint8_t *": "*mut u8"}
-RUST |= {f"uint{width}_t": f"u{width}" for width in (8, 16, 32, 64)}
+# The types of numbers in the crate and in C; one with a sign has 64 bits.
+NUMBERS = {f"u{width}": f"uint{width}_t" for width in (8, 16, 32, 64)} | {"i64": "int64_t"}
+RUST = {"const uint8_t *": "*const u8", "uint8_t *": "*mut u8"} | {c: number for number, c in NUMBERS.items()}
 
 
 def refusals():
-    """The rows of the table, which are 1 to `lastNumber` in rising order."""
+    """The rows of the table, which rise from 1 to `lastNumber`; a number between may have none."""
     text = TABLE.read_text()
     rows = [Refusal(int(number), name, words) for words, name, number in ROW.findall(text)]
     last = [int(number) for number in LAST.findall(text)]
-    if [row.number for row in rows] != list(range(1, len(rows) + 1)) or last != [len(rows)]:
-        raise SystemExit(f"{TABLE.relative_to(ROOT)}: its rows are not 1 to lastNumber in rising order, words above each")
+    numbers = [row.number for row in rows]
+    rises = numbers == sorted(set(numbers)) and numbers[:1] == [1] and numbers[-1:] == last
+    # A row without words would pass for a number without a row.
+    if not rises or len(rows) != len(NUMBERED.findall(text)):
+        raise SystemExit(f"{TABLE.relative_to(ROOT)}: its rows do not rise from 1 to lastNumber, words above each")
     return rows
 
 
@@ -77,7 +85,7 @@ def calls():
 def exports():
     """The types of each exported call of the crate, as the header has to declare them."""
     slices = {"&[u8]": ["const uint8_t *", "uint64_t"], "&mut [u8]": ["uint8_t *", "uint64_t"]}
-    numbers = {f"u{width}": [f"uint{width}_t"] for width in (8, 16, 32, 64)}
+    numbers = {number: [c] for number, c in NUMBERS.items()}
     found = {}
     for name, inside, answer in EXPORTED.findall(EXPORTS.read_text()):
         kinds = [re.sub(r"&'\w+ ", "&", part.split(":")[1].strip()) for part in inside.split(",") if part.strip()]
@@ -86,32 +94,38 @@ def exports():
 
 
 def arguments(call):
-    """A call's arguments, a slice being one: what each is, and the names of its parameters."""
+    """A call's arguments, a slice being one: what each is, and the names of its parameters. A number with a sign has
+    64 bits, every other 32."""
     found, rest = [], list(call.parameters)
     while rest:
         kind, name = rest.pop(0)
         if kind.endswith("*"):
             found.append(("OCTETS" if kind.startswith("const") else "ROOM", name, rest.pop(0)[1]))
         else:
-            found.append(("NUMBER", name))
+            found.append(("SIGNED" if kind == "int64_t" else "NUMBER", name))
     return found
 
 
 def header_table():
-    rows = [(0, "not a refusal")] + [(row.number, row.words) for row in refusals()]
+    rows = [(0, ACCEPTED)] + [(row.number, row.words) for row in refusals()]
     return "".join(f" * {number:>4}  {words}\n" for number, words in rows)
 
 
+def words_by_number():
+    """What is said of each number from 0 to the last."""
+    said = {0: ACCEPTED} | {row.number: row.words for row in refusals()}
+    return [said.get(number, NO_NUMBER) for number in range(max(said) + 1)]
+
+
 def header_words():
-    words = ["not a refusal"] + [row.words for row in refusals()]
-    return ",\n".join(f'        "{said}"' for said in words) + "\n"
+    return ",\n".join(f'        "{said}"' for said in words_by_number()) + "\n"
 
 
 def constant(row):
     """A refusal of the bindings, documented by its words as a sentence."""
     name = CALLED.get(row.name) or re.sub(r"(?<=[a-z0-9])(?=[A-Z])", "_", row.name).upper()
     words = row.words
-    if re.match(r"[a-z]+ \w", words):
+    if re.match(r"[a-z]+(-[a-z]+)* \w", words):
         words = words[0].upper() + words[1:]
     return f"    /// {words}.\n    pub const {name}: Refusal = Refusal({row.number});\n"
 
@@ -121,7 +135,7 @@ def constants():
 
 
 def rust_words():
-    return "".join(f'    "{words}",\n' for words in ["not a refusal"] + [row.words for row in refusals()])
+    return "".join(f'    "{said}",\n' for said in words_by_number())
 
 
 def extern():
@@ -140,7 +154,7 @@ def extern():
 
 def overlaps(call):
     """The pairs of a call's slices that must not overlap: each that is written, with every other one."""
-    slices = [argument for argument in arguments(call) if argument[0] != "NUMBER"]
+    slices = [argument for argument in arguments(call) if argument[0] in ("OCTETS", "ROOM")]
     for place, (kind, *slice) in enumerate(slices):
         for other_kind, *other in slices[place + 1 :]:
             if "ROOM" in (kind, other_kind):
@@ -184,8 +198,8 @@ def wrapped(words):
 def emulated():
     text = """/*
  * The calls of klumdray.h, each with its parameters, and with its arguments by position, a slice being
- * one. Who includes this file says before by CALL, NUMBER, OCTETS and ROOM what is made of them.
- * tools/make-surface writes it from the header.
+ * one. Who includes this file says before by CALL, NUMBER, SIGNED, OCTETS and ROOM what is made of
+ * them; SIGNED is a number of 64 bits with a sign. tools/make-surface writes it from the header.
  */
 """
     for call in calls():

@@ -18,7 +18,7 @@ enum call {
     CALLS
 };
 
-enum kind { NO_ARGUMENT = 0, A_NUMBER, OCTETS_LENT, ROOM_LENT };
+enum kind { NO_ARGUMENT = 0, A_NUMBER, A_SIGNED_NUMBER, OCTETS_LENT, ROOM_LENT };
 
 struct function {
     const char *name;
@@ -27,6 +27,7 @@ struct function {
 
 #define LISTED(...) {__VA_ARGS__}
 #define NUMBER(place, name) A_NUMBER
+#define SIGNED(place, name) A_SIGNED_NUMBER
 #define OCTETS(place, name, size) OCTETS_LENT
 #define ROOM(place, name, size) ROOM_LENT
 #define CALL(answer, name, parameters, arguments) {#name, LISTED arguments},
@@ -34,18 +35,21 @@ static const struct function functions[CALLS] = {
 #include "../emulated/calls.h"
 };
 #undef NUMBER
+#undef SIGNED
 #undef OCTETS
 #undef ROOM
 #undef CALL
 
-/* An argument: its number, or its octets and how many they are. */
+/* An argument: its number, in two's complement if it has a sign, or its octets and how many they
+ * are. */
 struct given {
-    uint32_t number;
+    uint64_t number;
     uint8_t *octets;
     uint64_t length;
 };
 
-#define NUMBER(place, name) given[place].number
+#define NUMBER(place, name) (uint32_t)given[place].number
+#define SIGNED(place, name) (int64_t)given[place].number
 #define OCTETS(place, name, size) given[place].octets, given[place].length
 #define ROOM(place, name, size) OCTETS(place, name, size)
 #define CALL(answer, name, parameters, arguments) \
@@ -193,8 +197,8 @@ static void take_slice(struct place *place, uint8_t how)
 static struct given take_argument(struct place *place, uint8_t kind)
 {
     struct given given = {0, NULL, 0};
-    if (kind == A_NUMBER) {
-        given.number = take_32();
+    if (kind == A_NUMBER || kind == A_SIGNED_NUMBER) {
+        given.number = take_number(kind == A_NUMBER ? 4 : 8);
         return given;
     }
     uint8_t how = take_octet();
@@ -267,6 +271,8 @@ static void say_call(unsigned call, const struct given *given)
     for (int i = 0; functions[call].kinds[i] != NO_ARGUMENT; i++)
         if (functions[call].kinds[i] == A_NUMBER)
             printf(" %u", (unsigned)given[i].number);
+        else if (functions[call].kinds[i] == A_SIGNED_NUMBER)
+            say_number(" ", given[i].number);
         else
             printf(" %s[%u]", given[i].octets ? "octets" : "null", (unsigned)given[i].length);
     printf("\n");

@@ -19,7 +19,7 @@ function functionsOf(text) {
     const functions = [];
     for (const part of text.split(/^CALL\(/m).slice(1)) {
         const [, answer, name] = /^(uint32_t|uint64_t), (klumdray_\w+),/.exec(part);
-        const kinds = [...part.matchAll(/\b(NUMBER|OCTETS|ROOM)\(/g)].map((found) => found[1]);
+        const kinds = [...part.matchAll(/\b(NUMBER|SIGNED|OCTETS|ROOM)\(/g)].map((found) => found[1]);
         functions.push({ answer, name, kinds, calls: 0 });
     }
     return functions;
@@ -42,6 +42,11 @@ class Table {
     number() {
         this.at += 4;
         return this.octets.readUInt32LE(this.at - 4);
+    }
+
+    signed() {
+        this.at += 8;
+        return this.octets.readBigInt64LE(this.at - 8);
     }
 
     answer() {
@@ -122,6 +127,7 @@ class Player {
         const slices = [];
         const values = called.kinds.map((kind, place) => {
             if (kind === "NUMBER") return [this.table.number()];
+            if (kind === "SIGNED") return [this.table.signed()];
             slices[place] = this.slice(this.memory.places[place]);
             return slices[place].values;
         });

@@ -13,7 +13,8 @@
  *   8 octets   the answer, as a caller widens it to 64 bits
  *              then each room in its order, as the call leaves it
  *
- * A number is 4 octets. A slice to read and a room are told alike:
+ * A number is 4 octets, one with a sign 8 in two's complement. A slice to read and a room are told
+ * alike:
  *
  *   00h                        a null pointer with length 0
  *   01h                        what the last call with a slice here that is not null left there

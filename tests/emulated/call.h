@@ -19,7 +19,7 @@ enum { MOST_ARGUMENTS = 16 };
 enum kind { A_NUMBER, OCTETS_LENT, ROOM_LENT };
 
 struct argument {
-    /* the number, or how many octets the slice has */
+    /* the number, in two's complement if it has a sign, or how many octets the slice has */
     __UINT64_TYPE__ number;
     __UINT8_TYPE__ kind;
     /* 1: a slice of length 0 that is lent as a null pointer */

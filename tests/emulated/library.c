@@ -9,6 +9,7 @@ typedef __UINT8_TYPE__ uint8_t;
 typedef __UINT16_TYPE__ uint16_t;
 typedef __UINT32_TYPE__ uint32_t;
 typedef __UINT64_TYPE__ uint64_t;
+typedef __INT64_TYPE__ int64_t;
 typedef __SIZE_TYPE__ size_t;
 
 #define CALL(answer, name, parameters, arguments) answer name parameters;
@@ -78,6 +79,7 @@ struct given {
 };
 
 #define NUMBER(place, name) (uint32_t)given[place].number
+#define SIGNED(place, name) (int64_t)given[place].number
 #define OCTETS(place, name, size) given[place].octets, given[place].number
 #define ROOM(place, name, size) OCTETS(place, name, size)
 #define CALL(answer, name, parameters, arguments) \

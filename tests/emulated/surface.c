@@ -164,6 +164,7 @@ static uint64_t hand_on(enum call call, const struct given *given, size_t count)
 
 #define LISTED(...) {__VA_ARGS__}
 #define NUMBER(place, name) {A_NUMBER, name, NULL}
+#define SIGNED(place, name) {A_NUMBER, (uint64_t)name, NULL}
 #define OCTETS(place, name, size) {OCTETS_LENT, size, (uint8_t *)(uintptr_t)name}
 #define ROOM(place, name, size) {ROOM_LENT, size, name}
 #define CALL(answer, name, parameters, arguments)                                   \
