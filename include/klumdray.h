@@ -2,8 +2,8 @@
  * Klumdray: the surface of the proved library libklumdray.a, numbers and octets only.
  *
  * Document 01 ("Frame layouts", "Refusal numbers", "The coupler", "Sites and the tracer") and
- * document 02 (R-1, tunnelling; R-2, repetitions) say what each call does; each call is proved to
- * do it for every input. So is what this file says of the numbers' ranges
+ * document 02 (R-1, tunnelling; R-2, repetitions; R-4, the leak total) say what each call does;
+ * each call is proved to do it for every input. So is what this file says of the numbers' ranges
  * (crates/promises/proofs/Given.antt), of the answers' bits, of the parts of the caller's octets,
  * of the list in a trace's room, of the frame in a step's memory and of the channels in their
  * table, as the helpers at its end read them (Surface.antt and SurfaceTunnelling.antt there), and
@@ -11,9 +11,9 @@
  *
  * Octets. A slice is a pointer and then a length of 64 bits, on every machine; a null pointer with
  * length 0 is an empty slice. Otherwise the pointer must have that many octets behind it. All
- * octets stay the caller's: a call reads those lent as const, writes only the room, the memory and
- * the table of channels lent for it, keeps no pointer and no memory of its own between calls. Calls
- * may be made from several threads.
+ * octets stay the caller's: a call reads those lent as const, writes only the room, the memory, the
+ * table of channels and the total lent for it, keeps no pointer and no memory of its own between
+ * calls. Calls may be made from several threads.
  *
  * Apart. What is lent to be written must not overlap anything else lent to the same call: what the
  * proof says of a call it says of slices that lie apart, and the library is compiled for no others
@@ -22,7 +22,8 @@
  * first refuses an overlap by 14.
  *
  * Numbers. "10h" is hexadecimal. A field of two octets has the high octet first. A number is given
- * as 32 bits and answered as 32 or 64: none is cut on its way, and one outside its range is refused.
+ * as 32 bits, hundredths as 64 with a sign, and answered as 32 or 64: none is cut on its way, and
+ * one outside its range is refused.
  *
  * Linking. The library has no data that is written, no start-up and no allocation. What it leaves to
  * the program is the compiler's own: memcpy, memmove and memset by these names or, on Arm, by those
@@ -54,6 +55,8 @@
  *   19  connection header's first octet not 04h
  *   20  channel not open
  *   21  counter not one that the channel awaits
+ *   23  two-octet float 7FFFh, which is invalid
+ *   24  sum past the 64 bits of the total
  *
  * A reader's answer is one number of 64 bits. With a refusal every bit above 7 is 0.
  *
@@ -205,6 +208,62 @@
  *   bits  0 to  7  the number
  *   bit   8        1 if the send counter was raised, 0 if a status other than 00h left it
  *   bits  9 to 31  0
+ *
+ * A code is the two octets of a KNX two-octet float (DPT 9) as one number, 0000h to FFFFh, the high
+ * octet first.
+ *
+ *   bits  0 to 10  mantissa
+ *   bits 11 to 14  exponent E, 0 to 15
+ *   bit  15        sign
+ *
+ * Sign and mantissa form a twelve-bit two's complement number M, -2,048 to 2,047. The code stands
+ * for M times 2 to the E hundredths: 0C1Ah for 2,100, by which a meter reports 21 litres, 87FFh for
+ * -1, F800h for -67,108,864. 7FFFh is invalid.
+ *
+ * The answer to reading a float is one number of 64 bits. With a refusal every bit above 7 is 0.
+ *
+ *   bits  0 to  7  the number
+ *   bits  8 to 31  0
+ *   bits 32 to 63  the hundredths in two's complement, -67,108,864 to 67,043,328
+ *
+ * The answer to writing one is one number of 32 bits. With a refusal every bit above 7 is 0.
+ *
+ *   bits  0 to  7  the number
+ *   bits  8 to 15  0
+ *   bits 16 to 31  the code
+ *
+ * A payload's answer, of 32 bits too, says whether it is an increment. If not, every bit is 0.
+ *
+ *   bits  0 to  7  the number, which is 0
+ *   bit   8        1 if the payload is an increment
+ *   bits  9 to 15  0
+ *   bits 16 to 31  the code that it carries
+ *
+ * A total is a block of 8 octets, which the caller lends to every call that adds to it: hundredths,
+ * 64 bits in two's complement, the high octet first. All 0 is a total of 0.
+ *
+ * A station's memory is a block of 265 octets, which the caller lends to every klumdray_take of one
+ * group on one line. At the start all of them are 0.
+ *
+ *   octets 0 to   1  size of the frame remembered, high octet first; 0: none
+ *   octets 2 to 264  that frame, from octet 2 on
+ *
+ * A size above 263 counts as none. No call leaves one, nor a size from 1 to 7, nor octets that are
+ * no frame; a call compares these as they stand. After a frame that is not refused, the size is the
+ * frame's and its octets are the frame; those behind the frame stay. After a refusal the whole
+ * block is as it was. It is laid out as the main side's part of a step's memory, and
+ * klumdray_remembered_size and klumdray_remembered read it as that.
+ *
+ * A take's answer is one number of 32 bits. With a refusal every bit above 7 is 0.
+ *
+ *   bits  0 to  7  the number
+ *   bits  8 to 15  what the frame is
+ *                    0  refused
+ *                    1  counted
+ *                    2  a repetition
+ *                    3  of another group
+ *                    4  no increment
+ *   bits 16 to 31  the code that was added; 0 if the frame is not counted
  */
 #ifndef KLUMDRAY_H
 #define KLUMDRAY_H
@@ -212,8 +271,8 @@
 #include <stddef.h>
 #include <stdint.h>
 
-/* 0.4.0, of this file and of the library that it is shipped with: two digits for each part. */
-#define KLUMDRAY_VERSION 0x000400
+/* 0.5.0, of this file and of the library that it is shipped with: two digits for each part. */
+#define KLUMDRAY_VERSION 0x000500
 
 #ifdef __cplusplus
 extern "C" {
@@ -454,6 +513,78 @@ uint64_t klumdray_tunnelling_send(const uint8_t *channels, uint64_t channels_len
 uint32_t klumdray_tunnelling_confirm(uint8_t *channels, uint64_t channels_length,
                                      const uint8_t *octets, uint64_t length);
 
+/* The sizes of a total and of a station's memory. */
+enum {
+    KLUMDRAY_TOTAL_SIZE = 8,
+    KLUMDRAY_STATION_MEMORY_SIZE = 265
+};
+
+/*
+ * Reads a two-octet float, given as its code: the hundredths that it stands for.
+ *   code 0000h to FFFFh
+ * Refusals, the first that applies: the code outside its range (14), 23.
+ * The answer is read by klumdray_number and klumdray_hundredths.
+ */
+uint64_t klumdray_float_value(uint32_t code);
+
+/*
+ * Reads a two-octet float, given as its octets.
+ * Refusals, the first that applies: fewer than two octets (1), more than two (5), 23.
+ */
+uint64_t klumdray_float_read(const uint8_t *octets, uint64_t length);
+
+/*
+ * Writes hundredths as a two-octet float, with the smallest E for which the nearest M, ties to even
+ * M, fits: what the code stands for is off by at most half of 2 to the E. 7FFFh is never written.
+ *   hundredths -67,108,864 to 67,043,328
+ * Refusal: the hundredths outside their range (14).
+ * The answer is read by klumdray_number and klumdray_code. In a payload the code's high octet comes
+ * first.
+ */
+uint32_t klumdray_float_write(int64_t hundredths);
+
+/*
+ * Whether a payload is an increment: a GroupValueWrite of a two-octet float, which is the four
+ * octets 00h 80h and the float's two. It is never refused, and the code is not judged: 7FFFh is an
+ * increment too, which klumdray_total_add refuses.
+ *   payload: TPCI onward, of any length
+ * The answer is read by klumdray_is_increment and klumdray_code.
+ */
+uint32_t klumdray_increment(const uint8_t *payload, uint64_t length);
+
+/*
+ * Adds what a code stands for to a total.
+ *   total: 8 octets, laid out as above
+ *   code 0000h to FFFFh
+ * Refusals, the first that applies: the total's length or the code outside its range (14), 23, the
+ * sum past 64 bits (24). A refused call leaves the total as it was.
+ */
+uint32_t klumdray_total_add(uint8_t *total, uint64_t total_length, uint32_t code);
+
+/*
+ * A station that listens to one TP1 line takes a frame for the total of one group. A frame that is
+ * not to the group address, AT 1 and this destination, is of another group. One that is, and is
+ * marked repeated, is a repetition if the frame remembered is as long and all octets agree except
+ * the repeat bit and the check octet. Otherwise it is no increment if its payload is not one
+ * (klumdray_increment). What remains is counted: what its code stands for is added to the total.
+ *   total: 8 octets, laid out as above
+ *   memory: 265 octets, laid out as above
+ *   group: the group address, 0000h to FFFFh
+ *   octets: the frame received; which device sent it is not asked
+ * Refusals, the first that applies: the total's or the memory's length or the group outside its
+ * range (14), then as klumdray_tp1_read, then of a frame to be counted 23, the sum past 64 bits
+ * (24). A refused call leaves total and memory as they were. Every frame that is not refused is the
+ * one remembered, whatever it is; only one that is counted changes the total.
+ * Hand over every frame of the line, also those to others: what was sent directly before tells a
+ * repetition. A station that counts two groups has a total and a memory for each and hands each
+ * frame over twice: from one memory for both, the second would take the frame for a repetition of
+ * itself where its first sending was damaged.
+ * The answer is read by klumdray_number, klumdray_taken and klumdray_code.
+ */
+uint32_t klumdray_take(uint8_t *total, uint64_t total_length, uint8_t *memory,
+                       uint64_t memory_length, uint32_t group, const uint8_t *octets,
+                       uint64_t length);
+
 /*
  * The checked forms. What is lent to be written and overlaps anything else lent is refused by 14,
  * and nothing is written; otherwise the answer is the call's own.
@@ -597,6 +728,17 @@ static inline uint32_t klumdray_tunnelling_confirm_checked(uint8_t *channels,
     return klumdray_tunnelling_confirm(channels, channels_length, octets, length);
 }
 
+static inline uint32_t klumdray_take_checked(uint8_t *total, uint64_t total_length, uint8_t *memory,
+                                             uint64_t memory_length, uint32_t group,
+                                             const uint8_t *octets, uint64_t length)
+{
+    if (klumdray_overlap(total, total_length, memory, memory_length) ||
+        klumdray_overlap(total, total_length, octets, length) ||
+        klumdray_overlap(memory, memory_length, octets, length))
+        return 14u;
+    return klumdray_take(total, total_length, memory, memory_length, group, octets, length);
+}
+
 /* The checked forms end here. */
 
 /*
@@ -635,7 +777,10 @@ static inline const char *klumdray_words(uint32_t number)
         "filter table missing or of wrong size",
         "connection header's first octet not 04h",
         "channel not open",
-        "counter not one that the channel awaits"
+        "counter not one that the channel awaits",
+        "not a number of these calls",
+        "two-octet float 7FFFh, which is invalid",
+        "sum past the 64 bits of the total"
     };
     return number < sizeof words / sizeof words[0] ? words[number] : "not a number of these calls";
 }
@@ -929,6 +1074,61 @@ static inline uint8_t klumdray_channel_receive(const uint8_t *channels, uint32_t
 static inline uint8_t klumdray_channel_send(const uint8_t *channels, uint32_t number)
 {
     return klumdray_channel(channels, number)[2];
+}
+
+/* The answer to reading a float: the hundredths, 0 with a refusal. (What a cast of bits above the
+ * positive range gives is each compiler's own, so that they are counted down from -1.) */
+static inline int32_t klumdray_hundredths(uint64_t answer)
+{
+    uint32_t bits = (uint32_t)(answer >> 32);
+    return bits >> 31 == 0 ? (int32_t)bits : -1 - (int32_t)(0xFFFFFFFFu - bits);
+}
+
+/* The answer to writing a float, a payload's and a take's: the code, 0 if there is none. */
+static inline uint16_t klumdray_code(uint32_t answer)
+{
+    return (uint16_t)(answer >> 16 & 0xFFFFu);
+}
+
+/* A payload's answer: 1 if it is an increment, else 0. */
+static inline uint8_t klumdray_is_increment(uint32_t answer)
+{
+    return (uint8_t)(answer >> 8 & 1u);
+}
+
+/* What the frame is, in a take's answer. */
+enum {
+    KLUMDRAY_NOT_TAKEN = 0,
+    KLUMDRAY_COUNTED = 1,
+    KLUMDRAY_REPETITION = 2,
+    KLUMDRAY_OTHER_GROUP = 3,
+    KLUMDRAY_NO_INCREMENT = 4
+};
+
+static inline uint8_t klumdray_taken(uint32_t answer)
+{
+    return (uint8_t)(answer >> 8 & 0xFFu);
+}
+
+/* The hundredths in a total's 8 octets. */
+static inline int64_t klumdray_total(const uint8_t *total)
+{
+    uint64_t bits = 0;
+    size_t place;
+    for (place = 0; place < KLUMDRAY_TOTAL_SIZE; place++)
+        bits = bits << 8 | total[place];
+    return bits >> 63 == 0 ? (int64_t)bits : -1 - (int64_t)~bits;
+}
+
+/* Puts hundredths, any, into a total's 8 octets. */
+static inline void klumdray_total_put(uint8_t *total, int64_t hundredths)
+{
+    uint64_t bits = (uint64_t)hundredths;
+    size_t place;
+    for (place = KLUMDRAY_TOTAL_SIZE; place > 0; place--) {
+        total[place - 1] = (uint8_t)(bits & 0xFFu);
+        bits >>= 8;
+    }
 }
 
 #ifdef __cplusplus

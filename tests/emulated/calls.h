@@ -1,7 +1,7 @@
 /*
  * The calls of klumdray.h, each with its parameters, and with its arguments by position, a slice being
- * one. Who includes this file says before by CALL, NUMBER, OCTETS and ROOM what is made of them.
- * tools/make-surface writes it from the header.
+ * one. Who includes this file says before by CALL, NUMBER, SIGNED, OCTETS and ROOM what is made of
+ * them; SIGNED is a number of 64 bits with a sign. tools/make-surface writes it from the header.
  */
 CALL(uint32_t, klumdray_check_octet,
      (const uint8_t *octets, uint64_t n),
@@ -90,3 +90,23 @@ CALL(uint64_t, klumdray_tunnelling_send,
 CALL(uint32_t, klumdray_tunnelling_confirm,
      (uint8_t *channels, uint64_t channels_length, const uint8_t *octets, uint64_t length),
      (ROOM(0, channels, channels_length), OCTETS(1, octets, length)))
+CALL(uint64_t, klumdray_float_value,
+     (uint32_t code),
+     (NUMBER(0, code)))
+CALL(uint64_t, klumdray_float_read,
+     (const uint8_t *octets, uint64_t length),
+     (OCTETS(0, octets, length)))
+CALL(uint32_t, klumdray_float_write,
+     (int64_t hundredths),
+     (SIGNED(0, hundredths)))
+CALL(uint32_t, klumdray_increment,
+     (const uint8_t *payload, uint64_t length),
+     (OCTETS(0, payload, length)))
+CALL(uint32_t, klumdray_total_add,
+     (uint8_t *total, uint64_t total_length, uint32_t code),
+     (ROOM(0, total, total_length), NUMBER(1, code)))
+CALL(uint32_t, klumdray_take,
+     (uint8_t *total, uint64_t total_length, uint8_t *memory, uint64_t memory_length,
+      uint32_t group, const uint8_t *octets, uint64_t length),
+     (ROOM(0, total, total_length), ROOM(1, memory, memory_length), NUMBER(2, group),
+      OCTETS(3, octets, length)))

@@ -112,6 +112,14 @@ extern "C" {
                                 room: *mut u8, m: u64) -> u64;
     fn klumdray_tunnelling_confirm(channels: *mut u8, channels_length: u64,
                                    octets: *const u8, length: u64) -> u32;
+    fn klumdray_float_value(code: u32) -> u64;
+    fn klumdray_float_read(octets: *const u8, length: u64) -> u64;
+    fn klumdray_float_write(hundredths: i64) -> u32;
+    fn klumdray_increment(payload: *const u8, length: u64) -> u32;
+    fn klumdray_total_add(total: *mut u8, total_length: u64, code: u32) -> u32;
+    fn klumdray_take(total: *mut u8, total_length: u64, memory: *mut u8,
+                     memory_length: u64, group: u32, octets: *const u8,
+                     length: u64) -> u32;
 }
 
 /// Calls a writer of the library; what only messages and requests have comes first.

@@ -58,6 +58,10 @@ impl Refusal {
     pub const CHANNEL: Refusal = Refusal(20);
     /// Counter not one that the channel awaits.
     pub const COUNTER: Refusal = Refusal(21);
+    /// Two-octet float 7FFFh, which is invalid.
+    pub const INVALID: Refusal = Refusal(23);
+    /// Sum past the 64 bits of the total.
+    pub const PAST_TOTAL: Refusal = Refusal(24);
 }
 
 /// The words of document 01's table, by number.
@@ -84,6 +88,9 @@ const WORDS: &[&str] = &[
     "connection header's first octet not 04h",
     "channel not open",
     "counter not one that the channel awaits",
+    "not a number of these calls",
+    "two-octet float 7FFFh, which is invalid",
+    "sum past the 64 bits of the total",
 ];
 
 impl Refusal {
