@@ -2,6 +2,7 @@
 
 use crate::cemi::Code;
 use crate::coupler::{Acknowledgement, Side};
+use crate::station::Taken;
 use crate::tracer::{Reason, Why};
 use crate::{tunnelling, Meaning, Refusal};
 
@@ -174,4 +175,48 @@ pub(crate) fn acknowledgement(answer: u32) -> Result<tunnelling::Acknowledgement
 #[inline]
 pub(crate) fn raised(answer: u32) -> Result<bool, Refusal> {
     accepted(answer.into()).map(|answer| answer >> 8 & 1 == 1)
+}
+
+/// The hundredths in the answer to reading a float, or the refusal.
+#[inline]
+pub(crate) fn hundredths(answer: u64) -> Result<i32, Refusal> {
+    accepted(answer).map(|answer| (answer >> 32) as i32)
+}
+
+/// The code in the answer to writing a float, or the refusal.
+#[inline]
+pub(crate) fn code(answer: u32) -> Result<u16, Refusal> {
+    accepted(answer.into())?;
+    Ok(code_in(answer))
+}
+
+/// The code that a payload's answer says it carries, if it is an increment.
+#[inline]
+pub(crate) fn increment(answer: u32) -> Option<u16> {
+    (answer >> 8 & 1 == 1).then_some(code_in(answer))
+}
+
+/// The refusal, if an answer that says nothing else is one.
+#[inline]
+pub(crate) fn added(answer: u32) -> Result<(), Refusal> {
+    accepted(answer.into()).map(|_| ())
+}
+
+/// What a take's answer says that the frame is, or the refusal.
+#[inline]
+pub(crate) fn taken(answer: u32) -> Result<Taken, Refusal> {
+    accepted(answer.into())?;
+    Ok(match (answer >> 8) as u8 {
+        1 => Taken::Counted(code_in(answer)),
+        2 => Taken::Repetition,
+        3 => Taken::AnotherGroup,
+        4 => Taken::NoIncrement,
+        _ => unreachable!("an accepted frame is 1 to 4"),
+    })
+}
+
+/// Where answers of 32 bits have a code.
+#[inline]
+fn code_in(answer: u32) -> u16 {
+    (answer >> 16) as u16
 }

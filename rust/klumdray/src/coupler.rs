@@ -130,13 +130,19 @@ impl Memory {
     #[inline]
     pub fn remembered(&self, side: Side) -> Option<&[u8]> {
         let (main, sub) = self.0.split_at(MEMORY_SIZE / 2);
-        let part = match side {
+        frame_in(match side {
             Side::Main => main,
             Side::Sub => sub,
-        };
-        let size = usize::from(u16::from_be_bytes([part[0], part[1]]));
-        part[2..].get(..size).filter(|frame| !frame.is_empty())
+        })
     }
+}
+
+/// The frame in a side's part of a memory, or in a station's memory: two octets of size, then the
+/// frame.
+#[inline]
+pub(crate) fn frame_in(part: &[u8]) -> Option<&[u8]> {
+    let size = usize::from(u16::from_be_bytes([part[0], part[1]]));
+    part[2..].get(..size).filter(|frame| !frame.is_empty())
 }
 
 impl Default for Memory {

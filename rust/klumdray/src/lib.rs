@@ -2,8 +2,9 @@
 //!
 //! Each call gives what documents 01 and 02 say, for every input: a frame's meaning with its
 //! payload as a part of the caller's octets, the lines that a telegram reaches on a site, what a
-//! table of tunnelling channels does, or a [`Refusal`] with its number in those papers. What a
-//! coupler does with a frame is a [`coupler::Outcome`], with a refusal or without.
+//! table of tunnelling channels does, what a leak meter's telegram adds to the total of its circuit,
+//! or a [`Refusal`] with its number in those papers. What a coupler does with a frame is a
+//! [`coupler::Outcome`], with a refusal or without.
 //!
 //! ```
 //! let octets = [0xbc, 0, 0, 0x12, 0x34, 0xb4, 0x00, 0x80, 0x56, 0x78, 0x9a, 0xe5];
@@ -19,11 +20,13 @@
 mod answer;
 pub mod cemi;
 pub mod coupler;
+pub mod leak;
 mod meaning;
 #[allow(unsafe_code)]
 pub mod raw;
 mod refusal;
 pub mod routing;
+pub mod station;
 pub mod tp1;
 pub mod tracer;
 pub mod tunnelling;

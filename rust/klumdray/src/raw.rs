@@ -535,3 +535,111 @@ pub fn tunnelling_confirm(channels: &mut [u8], octets: &[u8]) -> u32 {
         )
     }
 }
+
+/// The answer to reading a two-octet float, given as its code: bits 0 to 7 the number, bits 32 to 63
+/// the hundredths in two's complement.
+///
+/// ```
+/// assert_eq!(klumdray::raw::float_value(0x0c1a), 2_100 << 32);
+/// assert_eq!(klumdray::raw::float_value(0x87ff), 0xffff_ffff << 32);
+/// assert_eq!(klumdray::raw::float_value(0x7fff), 23);
+/// assert_eq!(klumdray::raw::float_value(0x1_0c1a), 14);
+/// ```
+#[inline]
+pub fn float_value(code: u32) -> u64 {
+    // SAFETY: the library is lent nothing.
+    unsafe { klumdray_float_value(code) }
+}
+
+/// The same answer of the float's octets.
+///
+/// ```
+/// assert_eq!(klumdray::raw::float_read(&[0x0c, 0x1a]), 2_100 << 32);
+/// assert_eq!(klumdray::raw::float_read(&[0x0c]), 1);
+/// assert_eq!(klumdray::raw::float_read(&[0x7f, 0xff, 0x00]), 5);
+/// assert_eq!(klumdray::raw::float_read(&[0x7f, 0xff]), 23);
+/// ```
+#[inline]
+pub fn float_read(octets: &[u8]) -> u64 {
+    // SAFETY: the library reads the octets lent and keeps nothing.
+    unsafe { klumdray_float_read(octets.as_ptr(), octets.len() as u64) }
+}
+
+/// The answer to writing hundredths as a two-octet float: bits 0 to 7 the number, bits 16 to 31 the
+/// code.
+///
+/// ```
+/// assert_eq!(klumdray::raw::float_write(2_100), 0x0c1a << 16);
+/// assert_eq!(klumdray::raw::float_write(-67_108_864), 0xf800 << 16);
+/// assert_eq!(klumdray::raw::float_write(-67_108_865), 14);
+/// assert_eq!(klumdray::raw::float_write(67_043_329), 14);
+/// ```
+#[inline]
+pub fn float_write(hundredths: i64) -> u32 {
+    // SAFETY: the library is lent nothing.
+    unsafe { klumdray_float_write(hundredths) }
+}
+
+/// A payload's answer: bits 0 to 7 are 0, bit 8 is 1 if the payload is an increment, and then bits
+/// 16 to 31 are the code that it carries.
+///
+/// ```
+/// assert_eq!(klumdray::raw::increment(&[0x00, 0x80, 0x0c, 0x1a]), 0x0c1a << 16 | 1 << 8);
+/// assert_eq!(klumdray::raw::increment(&[0x00, 0x81]), 0);
+/// ```
+#[inline]
+pub fn increment(payload: &[u8]) -> u32 {
+    // SAFETY: the library reads the octets lent and keeps nothing.
+    unsafe { klumdray_increment(payload.as_ptr(), payload.len() as u64) }
+}
+
+/// The number, of adding what a code stands for to a total. The total is a block of 8 octets: 64
+/// bits of hundredths in two's complement, high octet first.
+///
+/// ```
+/// let mut total = [0, 0, 0, 0, 0, 0, 0, 100];
+/// assert_eq!(klumdray::raw::total_add(&mut total, 0x0c1a), 0);
+/// assert_eq!(i64::from_be_bytes(total), 2_200);
+/// assert_eq!(klumdray::raw::total_add(&mut total, 0x7fff), 23);
+/// assert_eq!(klumdray::raw::total_add(&mut total, 0x1_0000), 14);
+/// assert_eq!(klumdray::raw::total_add(&mut total[1..], 0x0c1a), 14);
+/// ```
+#[inline]
+pub fn total_add(total: &mut [u8], code: u32) -> u32 {
+    // SAFETY: the library reads and writes the total within the length lent and does not keep it.
+    unsafe { klumdray_total_add(total.as_mut_ptr(), total.len() as u64, code) }
+}
+
+/// A take's answer: bits 0 to 7 the number, bits 8 to 15 what the frame is (1 counted, 2 a
+/// repetition, 3 of another group, 4 no increment), bits 16 to 31 the code that was added. The total
+/// is a block of 8 octets as for [`total_add`], the memory one of 265, all zero at the start.
+///
+/// ```
+/// let octets = [0xbc, 0x47, 0x15, 0x12, 0x34, 0xe3, 0x00, 0x80, 0x0c, 0x1a, 0x42];
+/// let (mut total, mut memory) = ([0; 8], [0; 265]);
+/// let take = klumdray::raw::take;
+/// assert_eq!(take(&mut total, &mut memory, 0x1234, &octets), 0x0c1a << 16 | 1 << 8);
+/// assert_eq!(i64::from_be_bytes(total), 2_100);
+/// assert_eq!(memory[..5], [0, 11, 0xbc, 0x47, 0x15]);
+///
+/// assert_eq!(take(&mut total, &mut memory, 0x1235, &octets), 3 << 8);
+/// assert_eq!(take(&mut total, &mut memory, 0x1_1234, &octets), 14);
+/// assert_eq!(take(&mut total, &mut memory[1..], 0x1234, &octets), 14);
+/// assert_eq!(take(&mut total, &mut memory, 0x1234, &octets[1..]), 2);
+/// ```
+#[inline]
+pub fn take(total: &mut [u8], memory: &mut [u8], group: u32, octets: &[u8]) -> u32 {
+    // SAFETY: the library reads octets and writes total and memory within the lengths lent, which
+    // Rust's borrows keep apart, and keeps none of them.
+    unsafe {
+        klumdray_take(
+            total.as_mut_ptr(),
+            total.len() as u64,
+            memory.as_mut_ptr(),
+            memory.len() as u64,
+            group,
+            octets.as_ptr(),
+            octets.len() as u64,
+        )
+    }
+}

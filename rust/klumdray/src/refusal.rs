@@ -64,6 +64,9 @@ impl Refusal {
     pub const PAST_TOTAL: Refusal = Refusal(24);
 }
 
+/// What is said of a number that the table does not have, between its rows or behind them.
+const NO_NUMBER: &str = "not a number of these calls";
+
 /// The words of document 01's table, by number.
 const WORDS: &[&str] = &[
     "not a refusal",
@@ -106,13 +109,13 @@ impl Refusal {
     /// use klumdray::Refusal;
     /// assert_eq!(Refusal::from_number(6), Some(Refusal::CHECK_OCTET));
     /// assert_eq!(Refusal::from_number(0), None);
+    /// assert_eq!(Refusal::from_number(22), None);
     /// assert_eq!(Refusal::from_number(255), None);
     /// ```
     #[inline]
     pub fn from_number(number: u8) -> Option<Refusal> {
-        (1..WORDS.len())
-            .contains(&usize::from(number))
-            .then_some(Refusal(number))
+        let refusal = Refusal(number);
+        (number != 0 && refusal.words() != NO_NUMBER).then_some(refusal)
     }
 
     /// The number in document 01's table.
@@ -131,10 +134,7 @@ impl Refusal {
     /// assert_eq!(klumdray::Refusal::CHECK_OCTET.words(), "wrong check octet");
     /// ```
     pub fn words(self) -> &'static str {
-        WORDS
-            .get(usize::from(self.0))
-            .copied()
-            .unwrap_or("not a number of these calls")
+        WORDS.get(usize::from(self.0)).copied().unwrap_or(NO_NUMBER)
     }
 }
 

@@ -4,7 +4,7 @@
 use std::fs;
 use std::path::Path;
 
-use klumdray::{coupler, tp1, tracer, tunnelling, Refusal};
+use klumdray::{coupler, leak, station, tp1, tracer, tunnelling, Refusal};
 
 const HEADER: &str = include_str!("../../../include/klumdray.h");
 const RAW: &str = include_str!("../src/raw.rs");
@@ -34,7 +34,7 @@ fn every_call_has_an_example() {
         assert!(bare.is_empty(), "{}: no example: {bare:?}", path.display());
         calls += count;
     }
-    assert!(calls >= 51, "only {calls} public functions found");
+    assert!(calls >= 70, "only {calls} public functions found");
 }
 
 /// A source without its comments.
@@ -69,6 +69,7 @@ fn number(c: &str) -> &str {
         "uint16_t" => "u16",
         "uint32_t" => "u32",
         "uint64_t" => "u64",
+        "int64_t" => "i64",
         "size_t" => "usize",
         _ => panic!("the surface has no {c}"),
     }
@@ -114,7 +115,7 @@ fn the_calls_are_the_headers() {
         assert!(raw.contains(declaration), "not in raw.rs: {declaration}");
     }
     assert_eq!(declared.len(), raw.matches("fn klumdray_").count());
-    assert_eq!(declared.len(), 17);
+    assert_eq!(declared.len(), 23);
 }
 
 #[test]
@@ -131,6 +132,8 @@ fn the_sizes_are_the_headers() {
         ("CHANNEL", tunnelling::CHANNEL_SIZE),
         ("CHANNELS", tunnelling::CHANNELS_SIZE),
         ("ACK", tunnelling::ACKNOWLEDGEMENT_SIZE),
+        ("TOTAL", leak::TOTAL_SIZE),
+        ("STATION_MEMORY", station::MEMORY_SIZE),
     ];
     for (name, size) in sizes {
         assert_has(&format!("KLUMDRAY_{name}_SIZE = {size}"));
@@ -146,19 +149,24 @@ fn assert_has(wanted: &str) {
 
 #[test]
 fn the_refusals_are_the_headers() {
-    let refusals = (1..=u8::MAX).filter_map(Refusal::from_number);
-    let words: Vec<&str> = ["not a refusal"]
-        .into_iter()
-        .chain(refusals.map(Refusal::words))
-        .collect();
-    for (number, words) in words.iter().enumerate() {
-        let row = format!("\n *   {number:2}  {words}\n");
-        assert!(HEADER.contains(&row), "not in the header's table: {row}");
-    }
     let (_, table) = HEADER.split_once("words[] = {").expect("the words");
     let (table, _) = table.split_once('}').expect("their end");
-    let spoken = table.lines().filter_map(|line| line.split('"').nth(1));
-    assert_eq!(spoken.collect::<Vec<_>>(), words);
+    let spoken: Vec<&str> = table
+        .lines()
+        .filter_map(|line| line.split('"').nth(1))
+        .collect();
+    assert_eq!(spoken[0], "not a refusal");
+    for number in 1..=u8::MAX {
+        let refusal = Refusal::from_number(number);
+        let words = refusal.map_or("not a number of these calls", Refusal::words);
+        let row = format!("\n *   {number:2}  {words}\n");
+        assert_eq!(HEADER.contains(&row), refusal.is_some(), "{row}");
+        let said = spoken.get(usize::from(number)).unwrap_or(&words);
+        assert_eq!(*said, words, "of {number}");
+    }
+    let last = u8::try_from(spoken.len() - 1).expect("a number");
+    assert!(Refusal::from_number(last).is_some());
+    assert_eq!((last + 1..=u8::MAX).find_map(Refusal::from_number), None);
 }
 
 #[test]
