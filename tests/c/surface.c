@@ -1,8 +1,8 @@
 /*
  * The C surface as a C program meets it: empty slices, document 01's P1 to P6, P7's datagram, steps
  * of a coupler with P7 to P10, repetitions and frames that differ from one in a bit, sites with P12
- * and P13, tunnelling on four channels, numbers with more bits than their ranges have, and slices
- * that overlap or adjoin.
+ * and P13, tunnelling on four channels, two-octet floats, totals and a station that keeps one,
+ * numbers with more bits than their ranges have, and slices that overlap or adjoin.
  *
  * It also runs on boards: no assumption about the width of a pointer, and of the C library only
  * memcpy, memset, memcmp, strcmp and printf with %s and %u.
@@ -163,6 +163,10 @@ static void words(void)
     check("21 in words",
           strcmp(klumdray_words(21), "counter not one that the channel awaits") == 0);
     check("22 is no number", strcmp(klumdray_words(22), "not a number of these calls") == 0);
+    check("23 in words",
+          strcmp(klumdray_words(23), "two-octet float 7FFFh, which is invalid") == 0);
+    check("24 in words", strcmp(klumdray_words(24), "sum past the 64 bits of the total") == 0);
+    check("25 is no number", strcmp(klumdray_words(25), "not a number of these calls") == 0);
     check("255 is no number", strcmp(klumdray_words(255), "not a number of these calls") == 0);
 }
 
@@ -294,6 +298,9 @@ static void helpers(void)
     TAKES_OF(uint32_t, klumdray_ack_counter, 16, 8);
     TAKES_OF(uint32_t, klumdray_ack_status, 24, 8);
     TAKES_OF(uint32_t, klumdray_raised, 8, 1);
+    TAKES_OF(uint32_t, klumdray_code, 16, 16);
+    TAKES_OF(uint32_t, klumdray_is_increment, 8, 1);
+    TAKES_OF(uint32_t, klumdray_taken, 8, 8);
     check("an extended payload begins at octet 7", klumdray_tp1_payload_start(1u << 8) == 7);
     check("a datagram's information begins at octet 8", klumdray_routing_information_start() == 8);
     check("1 is the octet 11h", klumdray_message_code((uint64_t)KLUMDRAY_REQUEST << 56) == 0x11);
@@ -1423,6 +1430,571 @@ static void tunnelling(void)
     requests_sent();
 }
 
+/* sign and mantissa of a code "form a twelve-bit two's complement number M". */
+static int32_t mantissa(uint32_t code)
+{
+    return (int32_t)(code & 0x7FFu) - (code >> 15 == 0 ? 0 : 2048);
+}
+
+static uint32_t exponent(uint32_t code)
+{
+    return code >> 11 & 15u;
+}
+
+/* Whether both readers say that a code stands for these hundredths, and nothing else. */
+static int is_worth(uint32_t code, int32_t hundredths)
+{
+    uint8_t octets[2];
+    uint64_t answer = klumdray_float_value(code);
+    octets[0] = (uint8_t)(code >> 8);
+    octets[1] = (uint8_t)(code & 0xFFu);
+    return answer << 32 == 0 && klumdray_number(answer) == 0 &&
+           klumdray_hundredths(answer) == hundredths && klumdray_float_read(octets, 2) == answer;
+}
+
+static void floats_read(void)
+{
+    static const uint32_t mantissas[] = {0, 1, 2, 1023, 1024, 1025, 2045, 2046, 2047};
+    uint32_t high;
+    size_t i;
+    int holds = 1;
+    check("0C1Ah is 2,100", is_worth(0x0C1A, 2100));
+    check("87FFh is -1", is_worth(0x87FF, -1));
+    check("F800h is -67,108,864", is_worth(0xF800, -67108864));
+    check("7FFEh is 67,043,328", is_worth(0x7FFE, 67043328));
+    check("0000h is 0, and so is 7800h", is_worth(0x0000, 0) && is_worth(0x7800, 0));
+    check("07FFh is 2,047, 8000h is -2,048", is_worth(0x07FF, 2047) && is_worth(0x8000, -2048));
+    check("FFFFh is -32,768", is_worth(0xFFFF, -32768));
+    /* Sign and exponent are the five high bits. */
+    for (high = 0; high < 32; high++)
+        for (i = 0; i < sizeof mantissas / sizeof mantissas[0]; i++) {
+            uint32_t code = high << 11 | mantissas[i];
+            holds &= code == 0x7FFF ||
+                     is_worth(code, mantissa(code) * ((int32_t)1 << exponent(code)));
+        }
+    check("each sign and exponent scales its mantissa", holds);
+}
+
+static void floats_refused(void)
+{
+    static const uint8_t invalid[] = {0x7F, 0xFF, 0x00};
+    check("7FFFh is 23", klumdray_float_value(0x7FFF) == 23);
+    check("its octets are 23", klumdray_float_read(invalid, 2) == 23);
+    check("a code above FFFFh is 14",
+          klumdray_float_value(0x10000) == 14 && klumdray_float_value(0x10C1A) == 14 &&
+              klumdray_float_value(0x80000C1A) == 14 && klumdray_float_value(0xFFFFFFFF) == 14);
+    check("14 comes before 23", klumdray_float_value(0x17FFF) == 14);
+    check("no octet of a float is 1", klumdray_float_read(NULL, 0) == 1);
+    check("one octet is 1", klumdray_float_read(invalid, 1) == 1);
+    check("three octets are 5 before 23", klumdray_float_read(invalid, 3) == 5);
+    check("many octets are 5", klumdray_float_read(P1, sizeof P1) == 5);
+}
+
+/*
+ * Whether hundredths are written as the request says, or refused where they are to be: the nearest
+ * M, a tie at an even one, and with an exponent of one less the nearest does not fit. Of a tie
+ * there 2,047.5 goes to 2,048, which does not, and -2,048.5 to -2,048, which does.
+ */
+static int is_written(int64_t hundredths)
+{
+    uint32_t answer = klumdray_float_write(hundredths), code = klumdray_code(answer);
+    int64_t unit = (int64_t)1 << exponent(code), twice = 2 * (hundredths - mantissa(code) * unit);
+    int nearest, smallest;
+    if (hundredths < -67108864 || hundredths > 67043328)
+        return answer == 14;
+    nearest = twice == unit || twice == -unit ? code % 2 == 0 : twice < unit && twice > -unit;
+    smallest = exponent(code) == 0 || 4 * hundredths >= 4095 * unit ||
+               4 * hundredths < -4097 * unit;
+    return answer == code << 16 && code != 0x7FFF && nearest && smallest;
+}
+
+static uint32_t code_of(int64_t hundredths)
+{
+    uint32_t answer = klumdray_float_write(hundredths);
+    return klumdray_number(answer) == 0 ? klumdray_code(answer) : 0x10000;
+}
+
+static void floats_written(void)
+{
+    check("2,100 is written as 0C1Ah", code_of(2100) == 0x0C1A);
+    check("-1 is written as 87FFh", code_of(-1) == 0x87FF);
+    check("0 is written as 0000h", code_of(0) == 0x0000);
+    check("2,047 is written as 07FFh, 2,048 as 0C00h",
+          code_of(2047) == 0x07FF && code_of(2048) == 0x0C00);
+    check("-2,048 is written as 8000h, -2,049 as 8C00h",
+          code_of(-2048) == 0x8000 && code_of(-2049) == 0x8C00);
+    check("a tie goes to the even one above", code_of(2051) == 0x0C02 && is_worth(0x0C02, 2052));
+    check("and to the even one below", code_of(2049) == 0x0C00 && is_worth(0x0C00, 2048));
+    check("4,095 is written as 1400h", code_of(4095) == 0x1400 && is_worth(0x1400, 4096));
+    check("-4,097 is written as 8800h", code_of(-4097) == 0x8800 && is_worth(0x8800, -4096));
+    check("-67,108,864 is written as F800h", code_of(-67108864) == 0xF800);
+    check("67,043,328 is written as 7FFEh", code_of(67043328) == 0x7FFE);
+    check("-67,108,865 is 14", klumdray_float_write(-67108865) == 14);
+    check("67,043,329 is 14", klumdray_float_write(67043329) == 14);
+}
+
+/* Whole numbers and ties at the borders of every exponent, one more and one less. */
+static void floats_nearest(void)
+{
+    static const int64_t sizes[] = {0, 1, 2, 3, 1023, 1024, 1025, 2045, 2046, 2047, 2048};
+    unsigned scale, i, j;
+    int holds = 1;
+    for (scale = 0; scale < 16; scale++)
+        for (i = 0; i < sizeof sizes / sizeof sizes[0]; i++)
+            for (j = 0; j < 6; j++) {
+                int64_t unit = (int64_t)1 << scale, tie = j < 3 ? 0 : unit / 2;
+                int64_t hundredths = sizes[i] * unit + tie + (int64_t)(j % 3) - 1;
+                holds &= is_written(hundredths) && is_written(-hundredths);
+            }
+    check("the smallest exponent with the nearest mantissa is written", holds);
+}
+
+/* With the bits that 32 have not, numbers whose lower half alone is in its range. */
+static void wide_hundredths(void)
+{
+    static const int64_t halves[] = {0, 2100, -1, -67108864, 67043328};
+    size_t i;
+    unsigned bit;
+    int holds = 1;
+    for (i = 0; i < sizeof halves / sizeof halves[0]; i++)
+        for (bit = 32; bit < 63; bit++) {
+            holds &= klumdray_float_write(halves[i] + ((int64_t)1 << bit)) == 14;
+            holds &= klumdray_float_write(halves[i] - ((int64_t)1 << bit)) == 14;
+        }
+    check("hundredths of more than 32 bits are 14", holds);
+    check("so are those at the ends of 64 bits",
+          klumdray_float_write(INT64_MAX) == 14 && klumdray_float_write(INT64_MIN) == 14);
+    check("and at the ends of 32 bits", klumdray_float_write(INT32_MAX) == 14 &&
+                                            klumdray_float_write(INT32_MIN) == 14 &&
+                                            klumdray_float_write((int64_t)UINT32_MAX) == 14);
+}
+
+static void increments(void)
+{
+    uint8_t payload[] = {0x00, 0x80, 0x0C, 0x1A, 0x00};
+    uint32_t answer = klumdray_increment(payload, 4);
+    unsigned bit;
+    int holds = 1;
+    check("00 80 0C 1A is an increment of 0C1Ah", klumdray_is_increment(answer) == 1 &&
+                                                      klumdray_code(answer) == 0x0C1A &&
+                                                      klumdray_number(answer) == 0);
+    check("the answer's other bits are 0", answer == 0x0C1A0100u);
+    check("no octets are no increment", klumdray_increment(NULL, 0) == 0);
+    check("nor are one, two, three or five",
+          klumdray_increment(payload, 1) == 0 && klumdray_increment(payload, 2) == 0 &&
+              klumdray_increment(payload, 3) == 0 && klumdray_increment(payload, 5) == 0);
+    for (bit = 0; bit < 16; bit++) {
+        payload[bit / 8] ^= (uint8_t)(1u << bit % 8);
+        holds &= klumdray_increment(payload, 4) == 0;
+        payload[bit / 8] ^= (uint8_t)(1u << bit % 8);
+    }
+    check("with any other bit before the float it is none", holds);
+    payload[2] = 0x7F;
+    payload[3] = 0xFF;
+    check("with 7FFFh it is one", klumdray_increment(payload, 4) == 0x7FFF0100u);
+    payload[2] = payload[3] = 0x00;
+    check("with 0000h it is one", klumdray_increment(payload, 4) == 0x00000100u);
+}
+
+/* Whether adding a code to a total draws a number and leaves a total, and nothing around it is
+ * written. */
+static int is_added(int64_t start, uint32_t code, uint32_t number, int64_t end)
+{
+    uint8_t block[KLUMDRAY_TOTAL_SIZE + 2];
+    memset(block, 0x55, sizeof block);
+    klumdray_total_put(block + 1, start);
+    return klumdray_total_add(block + 1, KLUMDRAY_TOTAL_SIZE, code) == number &&
+           klumdray_total(block + 1) == end && block[0] == 0x55 &&
+           block[KLUMDRAY_TOTAL_SIZE + 1] == 0x55;
+}
+
+static void totals(void)
+{
+    int64_t half = (int64_t)1 << 32, sum = -1000000;
+    uint8_t total[KLUMDRAY_TOTAL_SIZE] = {0};
+    uint32_t i;
+    int holds = 1;
+    check("0C1Ah adds 2,100", is_added(0, 0x0C1A, 0, 2100));
+    check("87FFh takes 1 off", is_added(0, 0x87FF, 0, -1));
+    check("a negative total is added to", is_added(-5000, 0x0C1A, 0, -2900));
+    check("and back to 0", is_added(-2100, 0x0C1A, 0, 0));
+    check("0000h leaves a total", is_added(-half, 0x0000, 0, -half));
+    check("a sum goes past 32 bits", is_added(half - 1, 0x0001, 0, half));
+    check("and back", is_added(half, 0x87FF, 0, half - 1));
+    check("so it does below 0", is_added(-half, 0x87FF, 0, -half - 1));
+    check("the greatest and the least value are added",
+          is_added(half, 0x7FFE, 0, half + 67043328) && is_added(half, 0xF800, 0, half - 67108864));
+    klumdray_total_put(total, sum);
+    for (i = 0; i < 500; i++) {
+        uint32_t code = (i * 40503u + 7u) & 0xFFFFu;
+        holds &= klumdray_total_add(total, sizeof total, code) == 0;
+        sum += (int64_t)mantissa(code) * ((int64_t)1 << exponent(code));
+    }
+    check("after 500 increments the total is the start and their sum",
+          holds && klumdray_total(total) == sum);
+}
+
+static void totals_refused(void)
+{
+    int64_t most = INT64_MAX, least = INT64_MIN;
+    uint8_t block[KLUMDRAY_TOTAL_SIZE + 1];
+    size_t n;
+    int holds = 1;
+    check("a sum of the greatest total is added", is_added(most - 2100, 0x0C1A, 0, most));
+    check("one more is 24", is_added(most - 2099, 0x0C1A, 24, most - 2099));
+    check("1 added to the greatest is 24", is_added(most, 0x0001, 24, most));
+    check("a sum of the least total is added", is_added(least + 1, 0x87FF, 0, least));
+    check("one less is 24", is_added(least, 0x87FF, 24, least));
+    check("far less is 24", is_added(least + 67108863, 0xF800, 24, least + 67108863));
+    check("0 is added at both ends",
+          is_added(most, 0x0000, 0, most) && is_added(least, 0x7800, 0, least));
+    check("the ends are left by the other sign",
+          is_added(most, 0x87FF, 0, most - 1) && is_added(least, 0x0001, 0, least + 1));
+    check("7FFFh is 23 and adds nothing", is_added(-1, 0x7FFF, 23, -1));
+    check("23 comes before 24", is_added(most, 0x7FFF, 23, most));
+    check("a code above FFFFh is 14 before 23 and 24",
+          is_added(0, 0x10000, 14, 0) && is_added(most, 0x10001, 14, most) &&
+              is_added(7, 0x17FFF, 14, 7) && is_added(7, 0x80000C1A, 14, 7));
+    memset(block, 0x55, sizeof block);
+    for (n = 0; n <= sizeof block; n++)
+        if (n != KLUMDRAY_TOTAL_SIZE)
+            holds &= klumdray_total_add(block, n, 0x0C1A) == 14 &&
+                     klumdray_total_add(block, n, 0x7FFF) == 14;
+    check("a total of 0 to 7 or of 9 octets is 14 before 23", holds);
+    check("so is a null one", klumdray_total_add(NULL, 0, 0x0C1A) == 14);
+    check("such octets stay", untouched(block, sizeof block));
+}
+
+/* Every bit of a total on its way into the block and back, with both signs. */
+static void totals_kept(void)
+{
+    static const uint8_t rising[KLUMDRAY_TOTAL_SIZE] = {1, 2, 3, 4, 5, 6, 7, 8};
+    static const uint8_t below[KLUMDRAY_TOTAL_SIZE] = {0xFF, 0xFF, 0xFF, 0xFF,
+                                                       0xFF, 0xFF, 0xF7, 0xCC};
+    uint8_t total[KLUMDRAY_TOTAL_SIZE];
+    unsigned bit;
+    int holds = 1;
+    for (bit = 0; bit < 63; bit++) {
+        int64_t one = (int64_t)1 << bit;
+        klumdray_total_put(total, one);
+        holds &= klumdray_total(total) == one && total[7 - bit / 8] == 1u << bit % 8;
+        klumdray_total_put(total, -1 - one);
+        holds &= klumdray_total(total) == -1 - one &&
+                 total[7 - bit / 8] == (uint8_t)~(1u << bit % 8);
+    }
+    check("each bit of a total is put and read", holds);
+    klumdray_total_put(total, INT64_MAX);
+    check("so is the greatest total", klumdray_total(total) == INT64_MAX && total[0] == 0x7F);
+    klumdray_total_put(total, INT64_MIN);
+    check("so is the least total", klumdray_total(total) == INT64_MIN && total[0] == 0x80);
+    check("the high octet of a total is the first",
+          klumdray_total(rising) == ((int64_t)0x01020304 << 32 | 0x05060708));
+    klumdray_total_put(total, -2100);
+    check("-2,100 is in two's complement", memcmp(total, below, sizeof below) == 0);
+}
+
+static void hundredths_in_answers(void)
+{
+    unsigned bit;
+    int holds = 1;
+    for (bit = 0; bit < 63; bit++)
+        holds &= klumdray_hundredths((uint64_t)1 << bit) ==
+                 (bit < 32 ? 0 : (int32_t)((uint32_t)1 << (bit - 32)));
+    check("klumdray_hundredths takes 32 bits from 32 on", holds);
+    check("the highest of them is the sign",
+          klumdray_hundredths((uint64_t)1 << 63) == INT32_MIN &&
+              klumdray_hundredths((uint64_t)0xFFFFFFFF << 32) == -1 &&
+              klumdray_hundredths((uint64_t)0x7FFFFFFF << 32) == INT32_MAX);
+}
+
+/* A station's blocks, each with an octet behind it that is not lent. */
+struct station {
+    uint8_t total[KLUMDRAY_TOTAL_SIZE + 1];
+    uint8_t memory[KLUMDRAY_STATION_MEMORY_SIZE + 1];
+};
+
+/* With nothing remembered. */
+static struct station station(int64_t total)
+{
+    struct station s;
+    memset(&s, 0, sizeof s);
+    klumdray_total_put(s.total, total);
+    s.total[KLUMDRAY_TOTAL_SIZE] = s.memory[KLUMDRAY_STATION_MEMORY_SIZE] = 0x55;
+    return s;
+}
+
+enum { LEAK_GROUP = 0x1234 };
+
+static uint32_t take(struct station *s, const uint8_t *octets, size_t n)
+{
+    return klumdray_take(s->total, KLUMDRAY_TOTAL_SIZE, s->memory, KLUMDRAY_STATION_MEMORY_SIZE,
+                         LEAK_GROUP, octets, n);
+}
+
+/* Whether a frame is taken for what it is to be: the answer, the total and all octets of both
+ * blocks. */
+static int is_taken(struct station *s, const uint8_t *octets, size_t n, uint32_t what,
+                    uint32_t code, int64_t total)
+{
+    struct station after = *s;
+    uint32_t answer = take(s, octets, n);
+    klumdray_total_put(after.total, total);
+    after.memory[0] = (uint8_t)(n >> 8);
+    after.memory[1] = (uint8_t)(n & 0xFFu);
+    memcpy(after.memory + 2, octets, n);
+    return klumdray_number(answer) == 0 && klumdray_taken(answer) == what &&
+           klumdray_code(answer) == code && answer == (what << 8 | code << 16) &&
+           memcmp(s, &after, sizeof *s) == 0;
+}
+
+/* Whether a frame is refused by a number, and both blocks stay. */
+static int is_not_taken(struct station *s, const uint8_t *octets, size_t n, uint8_t number)
+{
+    struct station before = *s;
+    uint32_t answer = take(s, octets, n);
+    return answer == number && klumdray_number(answer) == number &&
+           klumdray_taken(answer) == KLUMDRAY_NOT_TAKEN && klumdray_code(answer) == 0 &&
+           memcmp(s, &before, sizeof *s) == 0;
+}
+
+/* Telegram two whole, and with a wrong check octet; telegram one to the group beside. */
+static const uint8_t TWO[METER] = {0xBC, 0x47, 0x15, 0x12, 0x34, 0xE3,
+                                   0x00, 0x80, 0x0C, 0x1B, 0x43};
+static const uint8_t TWO_DAMAGED[METER] = {0xBC, 0x47, 0x15, 0x12, 0x34, 0xE3,
+                                           0x00, 0x80, 0x0C, 0x1B, 0x42};
+static const uint8_t BESIDE[METER] = {0xBC, 0x47, 0x15, 0x12, 0x35, 0xE3,
+                                      0x00, 0x80, 0x0C, 0x1A, 0x43};
+static const uint8_t BESIDE_REPEATED[METER] = {0x9C, 0x47, 0x15, 0x12, 0x35, 0xE3,
+                                               0x00, 0x80, 0x0C, 0x1A, 0x63};
+
+/* The customer's circuit: telegram two is damaged on its first sending. */
+static void story_of_a_station(void)
+{
+    struct station s = station(0);
+    check("telegram one is counted", is_taken(&s, ONE, METER, KLUMDRAY_COUNTED, 0x0C1A, 2100));
+    check("its repeat is a repetition",
+          is_taken(&s, ONE_REPEATED, METER, KLUMDRAY_REPETITION, 0, 2100));
+    check("and the repeat of that",
+          is_taken(&s, ONE_REPEATED, METER, KLUMDRAY_REPETITION, 0, 2100));
+    check("telegram two, damaged, is 6", is_not_taken(&s, TWO_DAMAGED, METER, 6));
+    check("its repeat is counted",
+          is_taken(&s, TWO_REPEATED, METER, KLUMDRAY_COUNTED, 0x0C1B, 4202));
+    check("its next repeat is a repetition",
+          is_taken(&s, TWO_REPEATED, METER, KLUMDRAY_REPETITION, 0, 4202));
+    check("another group's telegram adds nothing",
+          is_taken(&s, BESIDE, METER, KLUMDRAY_OTHER_GROUP, 0, 4202));
+    check("a further increment is counted",
+          is_taken(&s, TWO, METER, KLUMDRAY_COUNTED, 0x0C1B, 6304));
+    check("the same once more, as a first sending, is counted",
+          is_taken(&s, TWO, METER, KLUMDRAY_COUNTED, 0x0C1B, 8406));
+    check("another group's repeat adds nothing",
+          is_taken(&s, BESIDE_REPEATED, METER, KLUMDRAY_OTHER_GROUP, 0, 8406));
+    check("behind it a repeat is none of telegram two",
+          is_taken(&s, TWO_REPEATED, METER, KLUMDRAY_COUNTED, 0x0C1B, 10508));
+    check("the remembered frame is read from its block",
+          klumdray_remembered_size(s.memory, KLUMDRAY_MAIN) == METER &&
+              memcmp(klumdray_remembered(s.memory, KLUMDRAY_MAIN), TWO_REPEATED, METER) == 0);
+}
+
+/* What a frame is: another group's before a repetition, a repetition before no increment. */
+static void frames_taken(void)
+{
+    static const uint8_t asked[] = {0xBC, 0x11, 0x01, 0x12, 0x34, 0xE1, 0x00, 0x00, 0x94};
+    static const uint8_t asked_repeated[] = {0x9C, 0x11, 0x01, 0x12, 0x34, 0xE1, 0x00, 0x00, 0xB4};
+    static const uint8_t individual[METER] = {0xBC, 0x47, 0x15, 0x12, 0x34, 0x63,
+                                              0x00, 0x80, 0x0C, 0x1A, 0xC2};
+    static const uint8_t extended[] = {0x3C, 0xE0, 0x47, 0x15, 0x12, 0x34,
+                                       0x03, 0x00, 0x80, 0x0C, 0x1A, 0xC2};
+    struct station s = station(-2101);
+    check("another group's frame is taken",
+          is_taken(&s, BESIDE, METER, KLUMDRAY_OTHER_GROUP, 0, -2101));
+    check("a repetition of it is of another group",
+          is_taken(&s, BESIDE_REPEATED, METER, KLUMDRAY_OTHER_GROUP, 0, -2101));
+    check("who asks for the total adds nothing",
+          is_taken(&s, asked, sizeof asked, KLUMDRAY_NO_INCREMENT, 0, -2101));
+    check("a repetition of it is a repetition",
+          is_taken(&s, asked_repeated, sizeof asked, KLUMDRAY_REPETITION, 0, -2101));
+    check("marked repeated, behind another frame, it is no increment",
+          is_taken(&s, BESIDE, METER, KLUMDRAY_OTHER_GROUP, 0, -2101) &&
+              is_taken(&s, asked_repeated, sizeof asked, KLUMDRAY_NO_INCREMENT, 0, -2101));
+    check("an individual address of the same number is no group's",
+          is_taken(&s, individual, METER, KLUMDRAY_OTHER_GROUP, 0, -2101));
+    check("an extended frame is counted",
+          is_taken(&s, extended, sizeof extended, KLUMDRAY_COUNTED, 0x0C1A, -1));
+    check("a standard one, marked repeated, is no repetition of it",
+          is_taken(&s, ONE_REPEATED, METER, KLUMDRAY_COUNTED, 0x0C1A, 2099));
+    check("P10's broadcast is of another group",
+          is_taken(&s, P10, sizeof P10, KLUMDRAY_OTHER_GROUP, 0, 2099));
+}
+
+/* Each group address by its two octets, 0000h and FFFFh among them. */
+static void groups_taken(void)
+{
+    static const uint32_t groups[] = {0x0000, 0x0001, 0x1200, 0x1234, 0x3412, 0xFF00, 0xFFFF};
+    size_t i, j;
+    int holds = 1;
+    for (i = 0; i < sizeof groups / sizeof groups[0]; i++)
+        for (j = 0; j < sizeof groups / sizeof groups[0]; j++) {
+            struct station s = station(0);
+            uint8_t frame[METER];
+            uint32_t answer;
+            memcpy(frame, ONE, METER);
+            frame[3] = (uint8_t)(groups[i] >> 8);
+            frame[4] = (uint8_t)(groups[i] & 0xFFu);
+            frame[METER - 1] = (uint8_t)klumdray_check_octet(frame, METER - 1);
+            answer = klumdray_take(s.total, KLUMDRAY_TOTAL_SIZE, s.memory,
+                                   KLUMDRAY_STATION_MEMORY_SIZE, groups[j], frame, METER);
+            holds &= klumdray_taken(answer) == (i == j ? KLUMDRAY_COUNTED : KLUMDRAY_OTHER_GROUP) &&
+                     klumdray_total(s.total) == (i == j ? 2100 : 0);
+        }
+    check("a frame is counted for its own group alone", holds);
+}
+
+/* Why each group has a memory of its own: telegram two, damaged on its first sending, is handed over
+ * for two groups from one memory and from two. */
+static void memories_of_two_groups(void)
+{
+    struct station s = station(0), beside = station(0);
+    klumdray_take(beside.total, 8, beside.memory, 265, LEAK_GROUP + 1, TWO_REPEATED, METER);
+    check("from a memory of its own a group's repeat is counted",
+          is_taken(&s, TWO_REPEATED, METER, KLUMDRAY_COUNTED, 0x0C1B, 2102));
+    check("from that of another group it would be a repetition",
+          is_taken(&beside, TWO_REPEATED, METER, KLUMDRAY_REPETITION, 0, 0));
+}
+
+/* Behind the reader's refusals, and of a frame to be counted only. */
+static void sums_not_taken(void)
+{
+    static const uint8_t invalid[METER] = {0xBC, 0x47, 0x15, 0x12, 0x34, 0xE3,
+                                           0x00, 0x80, 0x7F, 0xFF, 0xD4};
+    static const uint8_t invalid_repeated[METER] = {0x9C, 0x47, 0x15, 0x12, 0x34, 0xE3,
+                                                    0x00, 0x80, 0x7F, 0xFF, 0xF4};
+    struct station s = station(INT64_MAX);
+    check("a telegram with 7FFFh is 23", is_not_taken(&s, invalid, METER, 23));
+    check("its repeat is 23 too", is_not_taken(&s, invalid_repeated, METER, 23));
+    check("a sum past the total is 24", is_not_taken(&s, ONE, METER, 24));
+    check("its repeat is 24 too", is_not_taken(&s, ONE_REPEATED, METER, 24));
+    check("another group's telegram is none",
+          is_taken(&s, BESIDE, METER, KLUMDRAY_OTHER_GROUP, 0, INT64_MAX));
+    check("a damaged one is 6 before 24", is_not_taken(&s, TWO_DAMAGED, METER, 6));
+    s = station(INT64_MAX - 2100);
+    check("the greatest total is counted",
+          is_taken(&s, ONE, METER, KLUMDRAY_COUNTED, 0x0C1A, INT64_MAX));
+    check("a repetition at it is none of 24",
+          is_taken(&s, ONE_REPEATED, METER, KLUMDRAY_REPETITION, 0, INT64_MAX));
+    check("what is 23 leaves the frame remembered before",
+          is_not_taken(&s, invalid_repeated, METER, 23) &&
+              is_taken(&s, ONE_REPEATED, METER, KLUMDRAY_REPETITION, 0, INT64_MAX));
+}
+
+/* The reader's refusals, with a frame remembered. */
+static void frames_not_taken(void)
+{
+    static const uint8_t p5[] = {0x34, 0xE1, 0xAF, 0xFE, 0x00, 0x00, 0x00};
+    static const uint8_t p6[] = {0x34, 0x60, 0xAF, 0xFE, 0xFF, 0x00, 0xFF};
+    static const uint8_t other_kind[] = {0xCC};
+    uint8_t longer[METER + 1] = {0};
+    struct station s = station(-7);
+    memcpy(longer, ONE, METER);
+    check("telegram one is counted from -7",
+          is_taken(&s, ONE, METER, KLUMDRAY_COUNTED, 0x0C1A, 2093));
+    check("no octets are 1 to a station", is_not_taken(&s, NULL, 0, 1));
+    check("a control octet of another kind is 2", is_not_taken(&s, other_kind, 1, 2));
+    check("P5 is 3 to a station", is_not_taken(&s, p5, sizeof p5, 3));
+    check("P6 is 4 to a station", is_not_taken(&s, p6, sizeof p6, 4));
+    check("telegram one without its check octet is 1", is_not_taken(&s, ONE, METER - 1, 1));
+    check("with one octet more it is 5", is_not_taken(&s, longer, sizeof longer, 5));
+    check("telegram two with a wrong one is 6", is_not_taken(&s, TWO_DAMAGED, METER, 6));
+    check("telegram one stays remembered through all of them",
+          is_taken(&s, ONE_REPEATED, METER, KLUMDRAY_REPETITION, 0, 2093));
+}
+
+/* Blocks of other sizes and groups of more bits are 14 before all else. */
+static void blocks_not_taken(void)
+{
+    static const uint32_t groups[] = {0x10000, 0x11234, 0x1001234, 0x80001234, 0xFFFFFFFF};
+    static const size_t sizes[] = {0, 263, 264, 266};
+    struct station s = station(0), before;
+    size_t i, n;
+    int totals = 1, memories = 1, wide = 1;
+    memset(&s, 0x55, sizeof s);
+    before = s;
+    for (n = 0; n <= 9; n++)
+        if (n != 8) {
+            totals &= klumdray_take(n == 0 ? NULL : s.total, n, s.memory, 265, LEAK_GROUP, ONE,
+                                    METER) == 14;
+            totals &= klumdray_take(s.total, n, s.memory, 265, LEAK_GROUP, NULL, 0) == 14;
+        }
+    for (i = 0; i < sizeof sizes / sizeof sizes[0]; i++) {
+        memories &= klumdray_take(s.total, 8, i == 0 ? NULL : s.memory, sizes[i], LEAK_GROUP, ONE,
+                                  METER) == 14;
+        memories &= klumdray_take(s.total, 8, s.memory, sizes[i], LEAK_GROUP, NULL, 0) == 14;
+    }
+    for (i = 0; i < sizeof groups / sizeof groups[0]; i++) {
+        wide &= klumdray_take(s.total, 8, s.memory, 265, groups[i], ONE, METER) == 14;
+        wide &= klumdray_take(s.total, 8, s.memory, 265, groups[i], NULL, 0) == 14;
+    }
+    check("a total of 0 to 7 or of 9 octets is 14 before 1", totals);
+    check("a memory of 0, 263, 264 or 266 octets is 14 before 1", memories);
+    check("a group of more than 16 bits is 14 before 1", wide);
+    check("such blocks stay", memcmp(&s, &before, sizeof s) == 0);
+}
+
+/* Octets that the header has a word for although no call leaves them so, and the longest frame. */
+static void memories_of_stations(void)
+{
+    enum { N = KLUMDRAY_FRAME_SIZE };
+    uint8_t frame[N] = {0x3C, 0xE0, 0x47, 0x15, 0x12, 0x34, 0xFE};
+    struct station s = station(0);
+    unsigned size, counted = 0;
+    for (size = 1; size <= 7; size++) {
+        memcpy(s.memory + 2, ONE_REPEATED, METER);
+        s.memory[1] = (uint8_t)size;
+        counted += klumdray_taken(take(&s, ONE_REPEATED, METER)) == KLUMDRAY_COUNTED;
+    }
+    check("of a remembered size from 1 to 7 no frame is a repetition", counted == 7);
+    s.memory[2 + METER - 1] ^= 0xFF;
+    check("of a frame with a wrong check octet one is",
+          is_taken(&s, ONE_REPEATED, METER, KLUMDRAY_REPETITION, 0, 14700));
+    s.memory[0] = 1;
+    check("a remembered size of 267 is none",
+          is_taken(&s, ONE_REPEATED, METER, KLUMDRAY_COUNTED, 0x0C1A, 16800));
+    frame[N - 1] = (uint8_t)klumdray_check_octet(frame, N - 1);
+    check("the longest frame is taken", is_taken(&s, frame, N, KLUMDRAY_NO_INCREMENT, 0, 16800));
+    frame[0] ^= 0x20;
+    frame[N - 1] ^= 0x20;
+    check("and its repeat", is_taken(&s, frame, N, KLUMDRAY_REPETITION, 0, 16800));
+    frame[N - 2] ^= 0x01;
+    frame[N - 1] ^= 0x01;
+    check("with one bit other in its last octet of payload it is none",
+          is_taken(&s, frame, N, KLUMDRAY_NO_INCREMENT, 0, 16800));
+    check("octets behind a shorter frame stay",
+          is_taken(&s, ONE, METER, KLUMDRAY_COUNTED, 0x0C1A, 18900) &&
+              memcmp(s.memory + 2 + METER, frame + METER, N - METER) == 0);
+}
+
+static void litres(void)
+{
+    floats_read();
+    floats_refused();
+    floats_written();
+    floats_nearest();
+    wide_hundredths();
+    increments();
+    totals();
+    totals_refused();
+    totals_kept();
+    hundredths_in_answers();
+    story_of_a_station();
+    frames_taken();
+    groups_taken();
+    memories_of_two_groups();
+    sums_not_taken();
+    frames_not_taken();
+    blocks_not_taken();
+    memories_of_stations();
+}
+
 /* A number in its range; one of 16 bits has no wider one below 65,536. */
 struct number {
     const char *name;
@@ -1678,6 +2250,17 @@ static uint64_t confirm_checked(const struct slice *s)
     return klumdray_tunnelling_confirm_checked(s[0].octets, s[0].n, s[1].octets, s[1].n);
 }
 
+static uint64_t take_of(const struct slice *s)
+{
+    return klumdray_take(s[0].octets, s[0].n, s[1].octets, s[1].n, LEAK_GROUP, s[2].octets, s[2].n);
+}
+
+static uint64_t take_checked(const struct slice *s)
+{
+    return klumdray_take_checked(s[0].octets, s[0].n, s[1].octets, s[1].n, LEAK_GROUP, s[2].octets,
+                                 s[2].n);
+}
+
 static uint64_t step_of(const struct slice *s)
 {
     return klumdray_step(s[0].octets, s[0].n, s[1].octets, s[1].n, KLUMDRAY_MAIN, s[2].octets,
@@ -1781,6 +2364,13 @@ static const struct form FORMS[] = {
      confirm_checked,
      2,
      {CHANNELS(1), {"octets", sizeof ACK, ACK, sizeof ACK, 0, 0}}},
+    {"klumdray_take_checked",
+     take_of,
+     take_checked,
+     3,
+     {{"total", KLUMDRAY_TOTAL_SIZE, NULL, 0, 0x00, 1},
+      {"memory", KLUMDRAY_STATION_MEMORY_SIZE, NULL, 0, 0x00, 1},
+      {"octets", METER, ONE, METER, 0, 0}}},
 };
 
 /* Puts a slice down, and says where the next may begin. */
@@ -1948,6 +2538,7 @@ int main(void)
     refused_sites();
     reasons();
     tunnelling();
+    litres();
     wide_numbers_of_writers();
     wide_sides();
     wide_numbers_of_queries();
