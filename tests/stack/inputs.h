@@ -1,8 +1,8 @@
 /*
  * The inputs over which the stack of each exported call is measured: the longest frames of both
  * formats, every direction of a step, a repetition, refusals, traces and explanations on a site of
- * 255 couplers with filter tables, over the longest path, and requests and acknowledgements with
- * every outcome.
+ * 255 couplers with filter tables, over the longest path, requests and acknowledgements with every
+ * outcome, floats of either sign, and frames that are each thing to a station.
  * Who includes this file measures one call by `lowest_of`, the lowest place of the stack that a
  * function without parameters comes to, and tells a figure by `tell_figure`.
  */
@@ -27,6 +27,13 @@ static uint8_t channels[KLUMDRAY_CHANNELS_SIZE] = {0, 0, 0, 1, 0, 0}, expected;
 static uint8_t request[300], acknowledgement[KLUMDRAY_ACK_SIZE];
 static size_t tp1_length, cemi_length, datagram_length, request_length;
 static uint32_t side, kind, start, line, channel = 2;
+/* A leak meter's telegram, what a station is lent, and what it takes. */
+static uint8_t telegram[11] = {0xBC, 0x47, 0x15, 0x12, 0x34, 0xE3, 0x00, 0x80, 0x0C, 0x1A, 0x42};
+static uint8_t total[KLUMDRAY_TOTAL_SIZE], station[KLUMDRAY_STATION_MEMORY_SIZE];
+static const uint8_t *taken;
+static size_t taken_length;
+static uint32_t code, group;
+static int64_t hundredths;
 static uint64_t answer;
 
 static void nothing(void)
@@ -132,6 +139,37 @@ static void confirm(void)
                                          sizeof acknowledgement);
 }
 
+static void float_value(void)
+{
+    answer = klumdray_float_value(code);
+}
+
+static void float_read(void)
+{
+    answer = klumdray_float_read(telegram + 8, 2);
+}
+
+static void float_write(void)
+{
+    answer = klumdray_float_write(hundredths);
+}
+
+static void increment(void)
+{
+    answer = klumdray_increment(telegram + 6, 4);
+}
+
+static void total_add(void)
+{
+    answer = klumdray_total_add(total, sizeof total, code);
+}
+
+static void take(void)
+{
+    answer = klumdray_take(total, sizeof total, station, sizeof station, group, taken,
+                           taken_length);
+}
+
 static unsigned most;
 
 static void try_call(void (*call)(void))
@@ -232,6 +270,51 @@ static void tunnels(void)
     try_call(confirm), tell("klumdray_tunnelling_confirm");
 }
 
+static void floats(void)
+{
+    static const uint32_t codes[] = {0x0C1A, 0xF800, 0x7FFF, 0x10000};
+    static const int64_t values[] = {2100, 67043328, -4097, -67108864, -67108865};
+    size_t i;
+    for (i = 0; i < sizeof codes / sizeof codes[0]; i++)
+        code = codes[i], try_call(float_value);
+    tell("klumdray_float_value");
+    try_call(float_read), tell("klumdray_float_read");
+    for (i = 0; i < sizeof values / sizeof values[0]; i++)
+        hundredths = values[i], try_call(float_write);
+    tell("klumdray_float_write");
+    try_call(increment), tell("klumdray_increment");
+    for (i = 0; i < sizeof codes / sizeof codes[0]; i++)
+        code = codes[i], try_call(total_add);
+    /* The least total, from which nothing is taken. */
+    total[0] = 0x80, code = 0xF800;
+    try_call(total_add), tell("klumdray_total_add");
+}
+
+/* The longest frame, which is no increment, and its repeat; then a telegram that is counted, that is
+ * past the total, and that is refused; each also to another group, and with no group at all. */
+static void takes(void)
+{
+    static const uint32_t groups[] = {0x1235, 0x1234, 0x10000};
+    size_t i;
+    for (i = 0; i < sizeof groups / sizeof groups[0]; i++) {
+        group = groups[i];
+        taken = tp1, taken_length = tp1_length;
+        try_call(take);
+        mark();
+        try_call(take);
+        mark();
+        taken = telegram, taken_length = sizeof telegram;
+        total[0] = 0x00;
+        try_call(take);
+        total[0] = 0x7F, total[1] = total[2] = total[3] = total[4] = total[5] = 0xFF;
+        total[6] = total[7] = 0xFF;
+        try_call(take);
+        taken_length--;
+        try_call(take);
+    }
+    tell("klumdray_take");
+}
+
 static void measure_all(void)
 {
     prepare();
@@ -249,6 +332,8 @@ static void measure_all(void)
     try_call(ack_read), tell("klumdray_tunnelling_ack_read");
     try_call(ack_write), tell("klumdray_tunnelling_ack_write");
     tunnels();
+    floats();
+    takes();
 }
 
 #endif
