@@ -4,6 +4,8 @@
 
 pub mod frames;
 mod generator;
+pub mod leaks;
+pub mod meters;
 pub mod plans;
 mod seed;
 pub mod tables;

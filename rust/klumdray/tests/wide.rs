@@ -1,5 +1,5 @@
 //! Numbers with more bits than their ranges have: none is cut on its way, each draws 14, or 20 as a
-//! channel to send on, and room, memory and table of channels stay as they were.
+//! channel to send on, and room, memory, total and table of channels stay as they were.
 
 use klumdray::raw::{self, Numbers, Query, Setting, Site};
 
@@ -273,4 +273,48 @@ fn every_why_number_is_refused_first_when_too_wide() {
             assert_eq!(answer, 14, "line with {bits:#x}");
         }
     }
+}
+
+#[test]
+fn a_code_that_is_too_wide_is_refused() {
+    assert_eq!(raw::float_value(0x0c1a), 2_100 << 32);
+    assert_eq!(raw::total_add(&mut pattern::<8>(), 0x0c1a), 0);
+    for bits in ABOVE_ADDRESS {
+        // 7FFFh by its low bits, too, which would draw 23.
+        for code in [*bits, 0x0c1a | bits, 0x7fff | bits] {
+            let mut total = pattern::<8>();
+            assert_eq!(raw::float_value(code), 14, "{code:#x}");
+            assert_eq!(raw::total_add(&mut total, code), 14, "{code:#x}");
+            assert_eq!(total, pattern(), "{code:#x}");
+        }
+    }
+}
+
+/// The writer has a number of 64 bits, so that no bit is too wide, but each counts.
+#[test]
+fn hundredths_that_are_too_wide_are_refused() {
+    assert_eq!(raw::float_write(2_100), 0x0c1a << 16);
+    for bit in 27..63 {
+        for hundredths in [0, 2_100, -2_100] {
+            let above = hundredths + (1 << bit);
+            assert_eq!(raw::float_write(above), 14, "{above}");
+            let below = hundredths - (1 << bit);
+            assert_eq!(raw::float_write(below), 14, "{below}");
+        }
+    }
+}
+
+#[test]
+fn a_group_that_is_too_wide_is_refused_first() {
+    for bits in ABOVE_ADDRESS {
+        for octets in [&FRAME[..], &[]] {
+            let (mut total, mut memory) = (pattern::<8>(), pattern::<265>());
+            let answer = raw::take(&mut total, &mut memory, *bits, octets);
+            assert_eq!(answer, 14, "group {bits:#x}");
+            assert_eq!(total, pattern(), "group {bits:#x}");
+            assert_eq!(memory, pattern(), "group {bits:#x}");
+        }
+    }
+    let answer = raw::take(&mut [0; 8], &mut [0; 265], 0, &FRAME);
+    assert_eq!(answer, 4 << 8);
 }
