@@ -30,10 +30,14 @@ struct site {
 struct channels {
     uint64_t words[2];
 };
+struct station {
+    uint64_t words[36];
+};
 
 /* What is lent: the meaning of every row with a format and a repeat flag; a coupler with a memory
  * at the start; a table with all four channels open and fresh, but for the counter that is expected
- * on channel 2. What is lent to them in turn stays as long as they do. */
+ * on channel 2; a station with nothing counted or remembered. What is lent to them in turn stays as
+ * long as they do. */
 void lend_given(struct given *given, uint32_t extended, uint32_t first_sending);
 void lend_coupler(struct coupler *coupler, struct memory *memory, const uint8_t *settings,
                   const uint8_t *table, uint64_t table_length);
@@ -43,6 +47,7 @@ void lend_site(struct site *site, const uint8_t *records, uint64_t records_lengt
                const uint8_t *project, uint64_t project_length, const uint8_t *own,
                uint64_t own_length);
 void lend_channels(struct channels *channels, uint32_t expected);
+void lend_station(struct station *station, uint32_t group);
 
 /* The calls that are counted. */
 uint8_t reference_check_octet(const uint8_t *octets, uint64_t n);
@@ -68,8 +73,13 @@ struct answer reference_send(const struct channels *channels, uint32_t channel, 
                              uint32_t error_mark, const struct given *given,
                              const uint8_t *payload, uint64_t n, uint8_t *room, uint64_t m);
 uint64_t reference_confirm(struct channels *channels, const uint8_t *octets, uint64_t n);
+uint64_t reference_float_value(uint32_t code);
+uint64_t reference_float_read(const uint8_t *octets, uint64_t n);
+uint64_t reference_float_write(int64_t hundredths);
+struct answer reference_total_add(int64_t total, uint32_t code);
+uint64_t reference_take(struct station *station, const uint8_t *octets, uint64_t n);
 
-/* Answers in the bits of klumdray.h, and the two counters of channel 2. */
+/* Answers in the bits of klumdray.h, the two counters of channel 2, and totals in hundredths. */
 uint64_t told_tp1(const struct answer *answer);
 uint64_t told_message(const struct answer *answer);
 uint64_t told_written(const struct answer *answer);
@@ -79,5 +89,11 @@ uint64_t told_why(const uint64_t *answer);
 uint64_t told_receive(const struct answer *answer);
 uint64_t told_confirm(const uint64_t *answer);
 void told_counters(const struct channels *channels, uint8_t counters[2]);
+uint64_t told_value(const uint64_t *answer);
+uint64_t told_code(const uint64_t *answer);
+uint64_t told_sum(const struct answer *answer);
+uint64_t told_taken(const uint64_t *answer);
+int64_t told_total(const struct answer *answer);
+int64_t told_total_of(const struct station *station);
 
 #endif

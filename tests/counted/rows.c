@@ -53,5 +53,6 @@ int main(void)
     tell_step_rows();
     tell_tracer_rows();
     tell_tunnelling_rows();
+    tell_leak_rows();
     return 0;
 }

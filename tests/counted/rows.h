@@ -39,5 +39,6 @@ void tell_frame_rows(void);
 void tell_step_rows(void);
 void tell_tracer_rows(void);
 void tell_tunnelling_rows(void);
+void tell_leak_rows(void);
 
 #endif

@@ -3,6 +3,7 @@
 mod cemi;
 mod coupler;
 mod inputs;
+mod leak;
 mod measure;
 mod routing;
 mod tp1;
@@ -19,6 +20,7 @@ fn main() {
     coupler::rows();
     tracer::rows();
     tunnelling::rows();
+    leak::rows();
 }
 
 fn print_introduction() {
@@ -46,7 +48,13 @@ fn print_introduction() {
     println!(
         "couplers and 32 filter tables; the reference floods it from line to line. Receive, send"
     );
-    println!("and confirm are calls of tunnelling on a table of four open channels.");
+    println!(
+        "and confirm are calls of tunnelling on a table of four open channels. A float is read as a"
+    );
+    println!(
+        "number or as two octets, and written with E 0 (small), 6 (middle) and 15 (largest); the"
+    );
+    println!("reference tries each E from 0 on. Take is a station's call with an increment.");
     if klumdray::LINKED == "emulated" {
         println!("NOT A MEASUREMENT: the library's code is for x86-64 and runs emulated here.");
     } else if cfg!(not(target_arch = "x86_64")) {

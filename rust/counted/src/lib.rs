@@ -3,9 +3,10 @@
 //! as a module of its own, and counts the instructions of the functions `reference_*`.
 //!
 //! Such a function does nothing but call the reference, and its own instructions are left out: one
-//! jump, since an answer stays where the reference puts it ([`Answer`]); and where it is less than a
-//! word, in `why` and `confirm`, a call, a return and what puts the answer into one register. By
-//! "C-unwind" a panic may pass, which otherwise each call would be guarded against.
+//! jump, since an answer stays where the reference puts it ([`Answer`]); and where it is no more than
+//! a word, in `why`, `confirm`, the float's calls and `take`, a call, a return and what puts the answer
+//! into one register. By "C-unwind" a panic may pass, which otherwise each call would be guarded
+//! against.
 //!
 //! The functions `lend_*`, which make what the reference is lent, and `told_*`, which say an answer in
 //! the library's bits, are not counted. Nothing here may call what `core` has not.
@@ -15,6 +16,7 @@
 
 mod coupler;
 mod frames;
+mod leak;
 #[path = "../../calls/src/answer/packed.rs"]
 mod packed;
 mod tracer;

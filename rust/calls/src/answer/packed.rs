@@ -3,6 +3,7 @@
 
 use reference::cemi::{self, Code};
 use reference::coupler::{Acknowledgement, Outcome, Side};
+use reference::station::Taken;
 use reference::tracer::{Stop, Traced};
 use reference::{tp1, Format, Meaning};
 
@@ -74,4 +75,27 @@ pub fn packed_receipt(received: Result<Option<cemi::Frame<'_>>, u8>) -> u64 {
 
 pub fn packed_raising(raised: Result<bool, u8>) -> u64 {
     packed(raised.map(|is_raised| u64::from(is_raised) << 8))
+}
+
+/// The hundredths in two's complement.
+pub fn packed_value(value: Result<i32, u8>) -> u64 {
+    packed(value.map(|hundredths| u64::from(hundredths as u32) << 32))
+}
+
+pub fn packed_code(code: Result<u16, u8>) -> u64 {
+    packed(code.map(|code| u64::from(code) << 16))
+}
+
+/// The sum is in the block.
+pub fn packed_sum(sum: Result<i64, u8>) -> u64 {
+    packed(sum.map(|_| 0))
+}
+
+pub fn packed_taken(taken: Result<Taken, u8>) -> u64 {
+    packed(taken.map(|taken| match taken {
+        Taken::Counted(code) => 1 << 8 | u64::from(code) << 16,
+        Taken::Repetition => 2 << 8,
+        Taken::AnotherGroup => 3 << 8,
+        Taken::NoIncrement => 4 << 8,
+    }))
 }
