@@ -1,13 +1,15 @@
 //! The reference's answers, as the numbers and blocks of octets that include/klumdray.h documents.
 
 use crate::call::{Call, Function};
-use packed::{packed_message, packed_outcome, packed_size, packed_tp1, packed_trace, packed_why};
+use packed::packed_why;
+use packed::{packed_code, packed_message, packed_outcome, packed_size, packed_tp1, packed_trace};
 use reference::coupler::{self, Coupler, Memory, Outcome, Remembered};
 use reference::refusal::RANGE;
 use reference::site::Site;
 use reference::tracer::{self, Query, Stop};
 use reference::{cemi, routing, tp1, Given};
 
+pub mod leak;
 mod packed;
 pub mod tunnelling;
 
@@ -27,7 +29,15 @@ impl Answer {
         let (numbers, mut rooms) = (call.numbers(), call.rooms());
         let slices = call.slices();
         let slices: Vec<&[u8]> = slices.iter().map(|slice| slice.as_ref()).collect();
-        let number = number(call.function, &numbers, &slices, &mut rooms);
+        let number = match call.function {
+            Function::FloatWrite => packed_code(reference::leak::write(call.signed())),
+            function @ (Function::FloatValue
+            | Function::FloatRead
+            | Function::Increment
+            | Function::TotalAdd
+            | Function::Take) => leak::number(function, &numbers, &slices, &mut rooms),
+            function => number(function, &numbers, &slices, &mut rooms),
+        };
         Answer { number, rooms }
     }
 }

@@ -36,6 +36,12 @@ functions! {
     TunnellingReceive
     TunnellingSend
     TunnellingConfirm
+    FloatValue
+    FloatRead
+    FloatWrite
+    Increment
+    TotalAdd
+    Take
 }
 
 pub const FUNCTIONS: usize = Function::ALL.len();
@@ -71,6 +77,7 @@ impl From<Vec<u8>> for Lent {
 #[derive(Clone, Debug)]
 pub enum Argument {
     Number(u32),
+    Signed(i64),
     /// A slice to read.
     Octets(Lent),
     /// A slice to write.
@@ -100,6 +107,16 @@ impl Call {
             _ => None,
         });
         numbers.nth(place).expect("a number in this place")
+    }
+
+    /// The number with a sign, of a call that has one.
+    pub fn signed(&self) -> i64 {
+        let signed = |argument: &Argument| match argument {
+            Argument::Signed(number) => Some(*number),
+            _ => None,
+        };
+        let mut found = self.arguments.iter().filter_map(signed);
+        found.next().expect("a number with a sign")
     }
 
     pub fn slices(&self) -> Vec<Cow<'_, [u8]>> {

@@ -39,6 +39,7 @@ pub fn ranges(function: Function) -> &'static [u32] {
         Function::TunnellingRequestWrite => &[255, 255, 0x2e, 1, 1, 1, 3, 65_535, 1, 65_535, 7],
         Function::TunnellingAckWrite => &[255, 255, 255],
         Function::TunnellingSend => &[4, 0x2e, 1, 1, 1, 3, 65_535, 1, 65_535, 7],
+        Function::FloatValue | Function::TotalAdd | Function::Take => &[65_535],
         Function::CheckOctet
         | Function::Tp1Read
         | Function::CemiRead
@@ -46,7 +47,10 @@ pub fn ranges(function: Function) -> &'static [u32] {
         | Function::TunnellingRequestRead
         | Function::TunnellingAckRead
         | Function::TunnellingReceive
-        | Function::TunnellingConfirm => &[],
+        | Function::TunnellingConfirm
+        | Function::FloatRead
+        | Function::FloatWrite
+        | Function::Increment => &[],
     }
 }
 

@@ -4,15 +4,17 @@ use crate::answer::Answer;
 use crate::call::{Argument, Call, Function, Lent};
 use crate::table::{HEAD_SIZE, MARK, PLACES};
 use Function::{CemiRead, CemiWrite, CheckOctet, RoutingRead, RoutingWrite};
+use Function::{FloatRead, FloatValue, FloatWrite, Increment, Take, TotalAdd};
 use Function::{Step, Tp1Read, Tp1Write, Trace, Why};
 use Function::{TunnellingAckRead, TunnellingAckWrite, TunnellingConfirm};
 use Function::{TunnellingReceive, TunnellingRequestRead, TunnellingRequestWrite, TunnellingSend};
 
-/// The arguments in the order of tests/emulated/calls.h: n a number, o octets to read, r a room.
+/// The arguments in the order of tests/emulated/calls.h: n a number, s one with a sign, o octets to
+/// read, r a room.
 pub fn kinds(function: Function) -> &'static str {
     match function {
         CheckOctet | Tp1Read | CemiRead | RoutingRead => "o",
-        TunnellingRequestRead | TunnellingAckRead => "o",
+        TunnellingRequestRead | TunnellingAckRead | FloatRead | Increment => "o",
         Tp1Write => "nnnnnnnor",
         CemiWrite | RoutingWrite => "nnnnnnnnnor",
         Step => "oonror",
@@ -23,6 +25,10 @@ pub fn kinds(function: Function) -> &'static str {
         TunnellingReceive => "ror",
         TunnellingSend => "onnnnnnnnnnor",
         TunnellingConfirm => "ro",
+        FloatValue => "n",
+        FloatWrite => "s",
+        TotalAdd => "rn",
+        Take => "rrno",
     }
 }
 
@@ -68,6 +74,10 @@ impl<'a> Reader<'a> {
         u32::from_le_bytes(self.take(4).try_into().unwrap())
     }
 
+    fn signed(&mut self) -> i64 {
+        i64::from_le_bytes(self.take(8).try_into().unwrap())
+    }
+
     fn lent(&mut self, place: usize) -> Lent {
         let held = match self.octet() {
             0 => return Lent::Null,
@@ -111,6 +121,7 @@ impl Iterator for Reader<'_> {
         for (place, kind) in kinds(function).chars().enumerate() {
             arguments.push(match kind {
                 'n' => Argument::Number(self.number()),
+                's' => Argument::Signed(self.signed()),
                 'o' => Argument::Octets(self.lent(place)),
                 _ => Argument::Room(self.lent(place)),
             });

@@ -1,12 +1,16 @@
 //! What a table has: rounds, in which every function has its share of the calls.
 
 use crate::answer::Answer;
-use crate::call::{Argument, Call, Function, Lent, FUNCTIONS};
+use crate::call::{Argument, Call, Function, Lent};
 use crate::numbers::{all_outside, ranges};
 use crate::plans::Plan;
+use crate::shares::{
+    OF_NUMBERS, ON_CHANNELS, ON_TOTALS, READERS, SHARED, SHARES, WITH_NUMBERS, WRITERS,
+};
 use crate::table::{Table, Wrong};
 use crate::traffic::Series;
-use crate::{channels, datagrams, frames, orders, repetitions, writes};
+use crate::{channels, datagrams, frames, meters, orders, repetitions, writes};
+use inputs::leaks::some_payload;
 use inputs::plans::{Stores, MOST_COUPLERS, MOST_OWN, MOST_PROJECT};
 use inputs::Generator;
 
@@ -26,49 +30,8 @@ pub const LEAST: usize = 150;
 
 /// From so many calls on, a table begins with what is not left to chance: each number at each place
 /// outside its range, tunnelling with each two things wrong, the channels' counters past 255, frames one
-/// bit other than the one remembered.
+/// bit other than the one remembered, floats and sums at the borders of their rules.
 const LEAST_WITH_ALL: usize = 8000;
-
-/// Of so many calls, by function.
-const SHARED: usize = 150;
-const SHARES: [usize; FUNCTIONS] = [6, 11, 10, 9, 9, 9, 9, 19, 9, 9, 8, 7, 5, 5, 11, 6, 8];
-
-/// The functions that take numbers.
-const WITH_NUMBERS: [Function; 9] = [
-    Function::Tp1Write,
-    Function::CemiWrite,
-    Function::RoutingWrite,
-    Function::Step,
-    Function::Trace,
-    Function::Why,
-    Function::TunnellingRequestWrite,
-    Function::TunnellingAckWrite,
-    Function::TunnellingSend,
-];
-
-const READERS: [Function; 6] = [
-    Function::CheckOctet,
-    Function::Tp1Read,
-    Function::CemiRead,
-    Function::RoutingRead,
-    Function::TunnellingRequestRead,
-    Function::TunnellingAckRead,
-];
-
-const WRITERS: [Function; 5] = [
-    Function::Tp1Write,
-    Function::CemiWrite,
-    Function::RoutingWrite,
-    Function::TunnellingRequestWrite,
-    Function::TunnellingAckWrite,
-];
-
-/// The functions that are lent a table of channels.
-const ON_CHANNELS: [Function; 3] = [
-    Function::TunnellingReceive,
-    Function::TunnellingSend,
-    Function::TunnellingConfirm,
-];
 
 const COUPLERS_OF_A_ROUND: usize = 3;
 const SITES_OF_A_ROUND: usize = 18;
@@ -94,6 +57,7 @@ pub fn table(options: Options) -> Table {
         writer.orders();
         writer.counters();
         writer.repetitions();
+        writer.floats();
     }
     while writer.table.count() < options.count {
         let left = options.count - writer.table.count();
@@ -132,6 +96,11 @@ impl Writer {
         self.steps(share(Function::Step));
         self.sites(share(Function::Trace), share(Function::Why));
         self.tunnels(repeated(&ON_CHANNELS, share));
+        for function in repeated(&OF_NUMBERS, share) {
+            let call = meters::some_of_numbers(&mut self.generator, function);
+            self.table.add(&call);
+        }
+        self.stations(repeated(&ON_TOTALS, share));
         self.rounds += 1;
     }
 
@@ -160,6 +129,13 @@ impl Writer {
     /// Frames marked repeated, each one bit other than the one remembered.
     fn repetitions(&mut self) {
         for call in repetitions::calls() {
+            self.table.add(&call);
+        }
+    }
+
+    /// Floats and sums at the borders of their rules.
+    fn floats(&mut self) {
+        for call in meters::calls() {
             self.table.add(&call);
         }
     }
@@ -203,6 +179,9 @@ impl Writer {
                     }
                 }
                 Function::TunnellingSend => channels::Series::new(generator).send(generator),
+                Function::FloatValue => meters::some_of_numbers(generator, function),
+                Function::TotalAdd => meters::Series::new(generator).add(generator),
+                Function::Take => meters::Series::new(generator).take(generator),
                 _ => writes::some_write(generator, function),
             };
             let fits_both = match call.slices().as_slice() {
@@ -225,6 +204,8 @@ impl Writer {
             (_, Function::RoutingRead) => frames::some_routing(generator).into(),
             (_, Function::TunnellingRequestRead) => datagrams::some_request(generator).into(),
             (_, Function::TunnellingAckRead) => datagrams::some_acknowledgement(generator).into(),
+            (_, Function::FloatRead) => meters::some_octets(generator).into(),
+            (_, Function::Increment) => some_payload(generator).into(),
             _ => {
                 let length = generator.below(300);
                 generator.octets(length).into()
@@ -291,6 +272,26 @@ impl Writer {
             if function != Function::TunnellingSend {
                 series.keep(&answer.rooms[0]);
             }
+        }
+    }
+
+    /// Calls on a station's total in any order, now and then of another one.
+    fn stations(&mut self, mut functions: Vec<Function>) {
+        let generator = &mut self.generator;
+        generator.shuffle(&mut functions);
+        let mut series = meters::Series::new(generator);
+        for function in functions {
+            match generator.below(40) {
+                0 => series = meters::Series::new(generator),
+                1 => series.spoil_size(generator),
+                _ => {}
+            }
+            let call = match function {
+                Function::TotalAdd => series.add(generator),
+                _ => series.take(generator),
+            };
+            let answer = self.table.add(&call);
+            series.keep(&answer.rooms);
         }
     }
 

@@ -8,7 +8,7 @@ pub const PLACES: usize = 13;
 pub const HEAD_SIZE: usize = MARK.len() + 4 + 4 * PLACES;
 
 /// 0 and the numbers of the refusals.
-const NUMBERS: usize = 22;
+const NUMBERS: usize = 25;
 
 /// How a slice is told.
 const NULL: u8 = 0;
@@ -70,6 +70,7 @@ impl Table {
         for (place, argument) in call.arguments.iter().enumerate() {
             match argument {
                 Argument::Number(number) => self.octets.extend(number.to_le_bytes()),
+                Argument::Signed(number) => self.octets.extend(number.to_le_bytes()),
                 Argument::Octets(lent) | Argument::Room(lent) => self.lend(place, lent),
             }
         }
