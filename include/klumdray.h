@@ -5,9 +5,10 @@
  * document 02 (R-1, tunnelling; R-2, repetitions; R-4, the leak total) say what each call does;
  * each call is proved to do it for every input. So is what this file says of the numbers' ranges
  * (crates/promises/proofs/Given.antt), of the answers' bits, of the parts of the caller's octets,
- * of the list in a trace's room, of the frame in a step's memory and of the channels in their
- * table, as the helpers at its end read them (Surface.antt and SurfaceTunnelling.antt there), and
- * of the test for an overlap (Overlap.antt).
+ * of the list in a trace's room, of the frame in a step's or a station's memory, of the channels in
+ * their table and of the total in its block, as the helpers at its end read them (Surface.antt,
+ * SurfaceTunnelling.antt and SurfaceLitres.antt there), and of the test for an overlap
+ * (Overlap.antt).
  *
  * Octets. A slice is a pointer and then a length of 64 bits, on every machine; a null pointer with
  * length 0 is an empty slice. Otherwise the pointer must have that many octets behind it. All
