@@ -1,7 +1,7 @@
 -- The lent blocks of a total and of a station: what the calls inside leave, laid over the blocks, is what the surface says.
-use Prim.Native.Nat.{ℕ, _+_, _-_, _%_, _≤_, _<_}
+use Prim.Native.Nat.{ℕ, _%_, _≤_, _<_}
 use mathlib.Core.Bool.{Bool, true, false, cond, _&&_}
-use mathlib.Core.List.{List, [], _∷_, _++_}
+use mathlib.Core.List.{List, [], _++_}
 use mathlib.Core.Path.{_≡_, refl, sym, ap, _∙_, subst}
 use native.Mathlib.Omega.{arith}
 use lib.Dec.{ltb, eqb}
@@ -14,7 +14,6 @@ use Rattle.octets.proofs.Room.{laid-front, laid-length}
 use Rattle.octets.proofs.Truth.{by-cases, never, and-true}
 use Rattle.octets.specs.Octets.{Octets}
 use Rattle.octets.specs.Room.{laid}
-use Rattle.frame.specs.declared.Meaning.{Meaning}
 use Rattle.frame.specs.declared.Refusal.the-variants.{OutOfRange}
 use Rattle.tp1.specs.Reading.{readTp1}
 use Rattle.tp1.specs.declared.Tp1Answer.{Tp1Answer}

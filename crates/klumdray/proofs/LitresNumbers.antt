@@ -1,19 +1,15 @@
 -- The numbers of the float's, the total's and the station's calls taken apart again: each is what the call inside answers, and nothing is lost.
-use Prim.Native.Nat.{ℕ, suc, _+_, _-_, _*_, _/_, _%_, _^_, _≤_, _<_}
-use mathlib.Core.Bool.{Bool, true, false, not, _&&_}
-use mathlib.Core.List.{List, [], _∷_}
+use Prim.Native.Nat.{ℕ, _+_, _*_, _/_, _%_, _^_, _<_}
+use mathlib.Core.List.{List}
 use mathlib.Core.Path.{_≡_, refl, sym, ap, _∙_, subst}
 use native.Mathlib.Omega.{arith}
-use lib.Dec.{eqb, leb}
-use lib.IntN.{ℤ, pos, negsuc, _+ℤ_}
-use lib.ListN.{length}
+use lib.Dec.{eqb}
+use lib.IntN.{ℤ, _+ℤ_}
 use lib.Signed.{mag}
 use borrow.Author.Tests.{eqb-true, eqb-false, leb-true}
 use Rattle.octets.proofs.Truth.{by-cases}
 use Rattle.octets.proofs.Word.{word-back}
 use Rattle.frame.proofs.Numbers.{refused-number}
-use Rattle.frame.specs.Refusals.{number}
-use Rattle.frame.specs.declared.Refusal.{Refusal}
 use Rattle.leak.proofs.Chosen.{reach-of, code-valid}
 use Rattle.leak.proofs.Codes.{mantissa-mag}
 use Rattle.leak.proofs.Exactly.{read-invalid, read-valid, write-within, write-beyond, add-invalid, add-past}
@@ -25,7 +21,7 @@ use Rattle.leak.specs.Reading.{readCode}
 use Rattle.leak.specs.Total.{inTotal, addTo}
 use Rattle.leak.specs.Writing.{inReach, writeCode}
 use Rattle.leak.proofs.Apart.{hundredths-one, code-one, value-refused, unread-one, code-refused, unwritten-one, sum-refused, unadded-one}
-use Rattle.leak.specs.Answers.{signedValues, valueNumbered, codedNumbered, carriedNumbered, addedNumbered}
+use Rattle.leak.specs.Answers.{valueNumbered, codedNumbered, carriedNumbered, addedNumbered}
 use Rattle.leak.specs.declared.Value.{Value}
 use Rattle.leak.specs.declared.Value.the-variants.{Hundredths, Refused as Unread}
 use Rattle.leak.specs.declared.Coded.{Coded}
@@ -38,10 +34,10 @@ use Rattle.station.proofs.Apart.{increment-refused, refused-one, apart}
 use Rattle.station.specs.Answers.{telegramNumbered}
 use Rattle.station.specs.declared.Telegram.{Telegram}
 use Rattle.station.specs.declared.Telegram.the-variants.{Increment, Repetition, OtherGroup, NoIncrement, Refused}
-use Rattle.klumdray.specs.Decoding.{bits, numberIn, hundredthsIn, codeIn, isIncrementIn, takenIn, valueFrom, codedFrom, carriedFrom, addedFrom, telegramFrom, Tells}
+use Rattle.klumdray.specs.Decoding.{bits, numberIn, codeIn, isIncrementIn, takenIn, valueFrom, codedFrom, carriedFrom, addedFrom, telegramFrom, Tells}
 use Rattle.klumdray.specs.Litres.{inBits, signedOf, valueNumber, codedNumber, carriedNumber, totalIn, totalOctets, bitsIn, bitsOctets, addedNumber, blockAdded, telegramNumber}
 use Rattle.klumdray.proofs.SignedBits.{signed-32, signed-64, bits-32}
-use Rattle.klumdray.proofs.Telling.{number-alone, tells-refused, tells-accepted, accepted-values}
+use Rattle.klumdray.proofs.Telling.{number-alone, tells-refused, tells-accepted}
 
 -- a value of 32 bits
 pub value-tells : (v : Value) → ((z : ℤ) → v ≡ Hundredths z → mag z < 2147483648) → Tells 64 valueFrom (valueNumber v) (valueNumbered v) (λ r. v ≡ Unread r)

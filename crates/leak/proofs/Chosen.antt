@@ -1,17 +1,17 @@
 -- The code that is written is the one that R-4 chooses, and no other code is; what a code stands for is in the writer's range.
-use Prim.Native.Nat.{ℕ, zero, suc, _+_, _-_, _*_, _/_, _%_, _^_, _≤_, _<_}
+use Prim.Native.Nat.{ℕ, zero, suc, _+_, _-_, _*_, _%_, _^_, _≤_, _<_}
 use mathlib.Core.Bool.{Bool, true, false}
-use mathlib.Core.Path.{_≡_, refl, sym, ap, _∙_, subst}
+use mathlib.Core.Path.{_≡_, refl, sym, ap, _∙_}
 use native.Mathlib.Nat.{mul-le-mul-right}
 use native.Mathlib.Omega.{arith}
 use lib.Dec.{ltb, leb, eqb}
 use lib.Pow.{pow-mono}
-use lib.IntN.{ℤ, pos, negsuc, negℤ, _*ℤ_}
+use lib.IntN.{ℤ, pos, negsuc, negℤ}
 use lib.Signed.{leZ}
 use borrow.Author.Tests.{le-leb, leb-true, ltb-true, ltb-false, eqb-true, eqb-false}
 use Rattle.octets.proofs.Truth.{by-cases, never, and-true}
 use Rattle.leak.specs.Float.{exponentOf, mantissaOf, hundredthsOf}
-use Rattle.leak.specs.Nearest.{Nearest, Chosen}
+use Rattle.leak.specs.Nearest.{Chosen}
 use Rattle.leak.specs.Writing.{nearestTo, nearestM, fitsM, smallestE, codeOf, codeFor, inReach}
 use Rattle.leak.specs.Stages.{exponentUnder}
 use Rattle.leak.proofs.Codes.{mantissa-plus, mantissa-minus}

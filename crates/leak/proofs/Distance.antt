@@ -4,7 +4,7 @@ use mathlib.Core.Bool.{Bool, true, false, cond}
 use mathlib.Core.Path.{_≡_, refl, _∙_}
 use native.Mathlib.Omega.{arith}
 use lib.Dec.{ltb}
-use lib.IntN.{ℤ, pos, negsuc, negℤ, natAbs, subℕ, _-ℤ_, _*ℤ_}
+use lib.IntN.{pos, negsuc, negℤ, natAbs, subℕ, _-ℤ_, _*ℤ_}
 use borrow.Author.Tests.{ltb-true, ltb-false}
 
 -- of one sign: the larger less the smaller

@@ -1,7 +1,7 @@
 -- What each call answers, by the one fact that decides it.
 use Prim.Native.Nat.{ℕ, _+_, _*_, _/_, _%_, _^_, _<_}
-use mathlib.Core.Bool.{Bool, true, false, not}
-use mathlib.Core.Path.{_≡_, refl, ap, _∙_}
+use mathlib.Core.Bool.{true, false}
+use mathlib.Core.Path.{_≡_}
 use native.Mathlib.Omega.{arith}
 use lib.IntN.{ℤ, pos, subℕ, _+ℤ_, _*ℤ_}
 use borrow.Author.Tests.{eq-eqb, ne-eqb}
@@ -9,7 +9,7 @@ use Rattle.frame.specs.declared.Refusal.the-variants.{OutOfRange, Invalid, Past
 use Rattle.leak.specs.declared.Value.the-variants.{Hundredths, Refused as Unread}
 use Rattle.leak.specs.declared.Coded.the-variants.{Code, Refused as Unwritten}
 use Rattle.leak.specs.declared.Added.the-variants.{Sum, Refused as Unadded}
-use Rattle.leak.specs.Float.{mantissaOf, exponentOf, hundredthsOf}
+use Rattle.leak.specs.Float.{mantissaOf, hundredthsOf}
 use Rattle.leak.specs.Reading.{readCode}
 use Rattle.leak.specs.Total.{inTotal, addTo}
 use Rattle.leak.specs.Writing.{codeFor, inReach, writeCode}

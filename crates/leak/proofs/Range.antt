@@ -1,18 +1,18 @@
 -- A sum within 64 bits, by the sign of its parts: what the code asks before it adds.
 use Prim.Native.Nat.{ℕ, zero, suc, _+_, _-_, _≤_, _<_}
-use mathlib.Core.Bool.{Bool, true, false, cond, not, _&&_}
-use mathlib.Core.Path.{_≡_, refl, sym, ap, _∙_, subst}
+use mathlib.Core.Bool.{Bool, true, false, cond, _&&_}
+use mathlib.Core.Path.{_≡_, refl, sym, ap, _∙_}
 use native.Mathlib.Omega.{arith}
-use lib.Dec.{T, ltb, leb}
-use lib.IntN.{ℤ, pos, negsuc, negℤ, subℕ, _+ℤ_, _-ℤ_}
+use lib.Dec.{ltb, leb}
+use lib.IntN.{ℤ, pos, negsuc, subℕ, _+ℤ_, _-ℤ_}
 use lib.Signed.{mag, ltZ, leZ}
 use mir.Syntax.{w32, w64}
 use mir.Val.{SFits, toZ, ofZ}
 use mir.Facts.{toZ-ofZ, sfits-widen}
 use Rattle.octets.proofs.Truth.{never}
-use borrow.Author.Tests.{lt-leb, le-leb, lt-ltb, le-ltb, ltb-true, ltb-false, leb-true, leb-false, eq-eqb, ne-eqb}
+use borrow.Author.Tests.{lt-leb, le-leb, le-ltb, ltb-true, ltb-false, leb-true, leb-false}
 use Rattle.leak.specs.Total.{inTotal}
-use Rattle.leak.proofs.Codes.{sub-above, sub-below}
+use Rattle.leak.proofs.Codes.{sub-above}
 
 -- the greatest number of 64 bits; the least is -1 less it
 abbrev top : ℕ

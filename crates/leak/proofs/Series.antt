@@ -1,19 +1,17 @@
 -- "after any series of accepted increments equals the start plus the sum of their values": one answer after the other, an accepted one adds
 -- its value and a refused one nothing.
 use Prim.Native.Nat.{ℕ}
-use mathlib.Core.Bool.{true, false}
 use mathlib.Core.List.{List, [], _∷_}
-use mathlib.Core.Path.{_≡_, refl, sym, ap, _∙_}
+use mathlib.Core.Path.{_≡_, sym, ap, _∙_}
 use lib.Dec.{eqb}
 use lib.IntN.{ℤ, _+ℤ_, +ℤ-idr, +ℤ-assoc}
 use borrow.Author.Tests.{eqb-true, eqb-false}
 use Rattle.octets.proofs.Truth.{by-cases}
-use Rattle.frame.specs.declared.Refusal.{Refusal}
 use Rattle.leak.specs.declared.Added.{Added}
 use Rattle.leak.specs.declared.Added.the-variants.{Sum, Refused}
 use Rattle.leak.specs.Float.{hundredthsOf}
 use Rattle.leak.specs.Total.{inTotal, addTo}
-use Rattle.leak.specs.Series.{kept, Follows, left, acceptedOf, sumOf}
+use Rattle.leak.specs.Series.{Follows, left, acceptedOf, sumOf}
 use Rattle.leak.proofs.Apart.{sum-refused}
 use Rattle.leak.proofs.Exactly.{add-invalid, add-past, add-within}
 

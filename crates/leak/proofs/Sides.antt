@@ -1,18 +1,16 @@
 -- A signed number of any width, taken apart by its sign into its size; and the writer's range, by the size.
-use Prim.Native.Nat.{ℕ, zero, suc, _+_, _-_, _≤_, _<_}
-use mathlib.Core.Bool.{Bool, true, false, not, _&&_}
-use mathlib.Core.Path.{_≡_, refl, sym, ap, _∙_, subst}
+use Prim.Native.Nat.{ℕ, suc, _≤_, _<_}
+use mathlib.Core.Bool.{true, false}
+use mathlib.Core.Path.{_≡_, refl, sym, ap, _∙_}
 use native.Mathlib.Omega.{arith}
-use lib.Dec.{T, ltb, leb}
-use lib.IntN.{ℤ, pos, negsuc, negℤ, natAbs, subℕ, _+ℤ_, _-ℤ_}
-use lib.Signed.{mag, ltZ, leZ, nonNeg}
+use lib.IntN.{ℤ, pos, negsuc, _-ℤ_}
+use lib.Signed.{mag, ltZ}
 use mir.Syntax.{Width}
-use mir.Val.{Fits, SFits, toZ, ofZ}
+use mir.Val.{SFits, toZ, ofZ}
 use mir.Facts.{toZ-ofZ}
 use Rattle.octets.proofs.Truth.{never}
-use borrow.Author.Tests.{lt-leb, le-leb, lt-ltb, le-ltb, ltb-true, ltb-false}
+use borrow.Author.Tests.{lt-leb, le-leb, le-ltb, ltb-true, ltb-false}
 use Rattle.frame.specs.declared.Refusal.the-variants.{OutOfRange}
-use Rattle.leak.specs.declared.Coded.{Coded}
 use Rattle.leak.specs.declared.Coded.the-variants.{Code, Refused}
 use Rattle.leak.specs.Writing.{writeCode, codeFor}
 use Rattle.leak.proofs.Codes.{sub-above}

@@ -1,16 +1,16 @@
 -- The smallest E: it is the first that serves, it is at most 15, and with a size in range it serves. By the size alone, and of a signed number.
-use Prim.Native.Nat.{ℕ, zero, suc, _+_, _-_, _*_, _/_, _%_, _^_, _≤_, _<_}
+use Prim.Native.Nat.{ℕ, zero, suc, _+_, _-_, _*_, _^_, _≤_, _<_}
 use mathlib.Core.Bool.{Bool, true, false, cond, _&&_}
-use mathlib.Core.Path.{_≡_, refl, sym, ap, _∙_, subst}
+use mathlib.Core.Path.{_≡_, refl, ap, subst}
 use native.Mathlib.Nat.{add-zero, mul-le-mul-right}
 use native.Mathlib.Omega.{arith}
-use lib.Dec.{ltb, leb, eqb}
+use lib.Dec.{leb, eqb}
 use lib.Pow.{pow-pos}
-use lib.IntN.{ℤ, pos, negsuc, negℤ}
+use lib.IntN.{pos, negsuc, negℤ}
 use borrow.Author.Tests.{le-leb, lt-leb, leb-true, leb-false, eqb-true, eqb-false}
-use Rattle.leak.specs.Writing.{nearestTo, nearestM, fitsM, firstE, smallestE, codeOf, codeFor}
+use Rattle.leak.specs.Writing.{nearestTo, fitsM, firstE, smallestE, codeOf, codeFor}
 use Rattle.leak.specs.Stages.{firstUnder, exponentUnder}
-use Rattle.leak.proofs.NearestLaws.{Near, nearest-near}
+use Rattle.leak.proofs.NearestLaws.{nearest-near}
 
 module _ (most a : ℕ) where
   -- one exponent tried, for the loop

@@ -1,25 +1,21 @@
 -- What the writer writes, read back, is M times 2 to the E; and what was read is written as a code of the same value.
 use Prim.Native.Nat.{ℕ, zero, suc, _+_, _-_, _*_, _/_, _%_, _^_, _≤_, _<_}
-use mathlib.Core.Bool.{Bool, true, false, cond, not, _&&_}
+use mathlib.Core.Bool.{Bool, true, false, _&&_}
 use mathlib.Core.Path.{_≡_, refl, sym, ap, _∙_, subst}
-use native.Mathlib.Nat.{mul-assoc, mul-comm, mul-le-mul-right}
+use native.Mathlib.Nat.{mul-assoc, mul-le-mul-right}
 use native.Mathlib.Omega.{arith}
-use lib.Dec.{T, ltb, leb, eqb}
-use lib.Pow.{pow-pos, pow-mono, pow-add}
-use lib.IntN.{ℤ, pos, negsuc, negℤ, natAbs, subℕ, _+ℤ_, _-ℤ_, _*ℤ_}
-use lib.Signed.{mag, leZ}
-use borrow.Author.Tests.{le-leb, lt-leb, leb-true, leb-false, ltb-true, ltb-false, ne-eqb}
-use Rattle.frame.specs.declared.Refusal.the-variants.{OutOfRange, Invalid}
-use Rattle.leak.specs.declared.Coded.the-variants.{Code}
-use Rattle.leak.specs.declared.Value.the-variants.{Hundredths}
+use lib.Dec.{ltb, leb}
+use lib.Pow.{pow-pos, pow-add}
+use lib.IntN.{ℤ, pos, negsuc, negℤ, _*ℤ_}
+use lib.Signed.{leZ}
+use borrow.Author.Tests.{le-leb, lt-leb, leb-true, ltb-true, ltb-false}
 use Rattle.leak.specs.Float.{mantissaOf, hundredthsOf, exponentOf}
-use Rattle.leak.specs.Reading.{readCode}
-use Rattle.leak.specs.Writing.{nearestTo, nearestM, fitsM, smallestE, codeOf, codeFor, writeCode}
+use Rattle.leak.specs.Writing.{nearestTo, nearestM, fitsM, smallestE, codeOf, codeFor}
 use Rattle.leak.specs.Stages.{exponentUnder}
-use Rattle.leak.proofs.Codes.{sub-above, sub-below, mantissa-plus, mantissa-minus}
+use Rattle.leak.proofs.Codes.{mantissa-plus, mantissa-minus}
 use Rattle.leak.proofs.Distance.{times-minus}
 use Rattle.leak.proofs.NearestLaws.{nearest-exact}
-use Rattle.leak.proofs.Smallest.{smallest-plus, smallest-minus, exponent-most, exponent-before, exponent-meets, exponent-some, plus-meets, minus-meets}
+use Rattle.leak.proofs.Smallest.{smallest-plus, smallest-minus, exponent-most, exponent-before, exponent-meets, plus-meets, minus-meets}
 
 -- ---- the value of the code of M and E
 

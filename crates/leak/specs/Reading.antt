@@ -1,6 +1,6 @@
 -- R-4: "7FFFh is invalid and refused (23)". Of octets, "fewer octets than the frame needs" are 1 and "octets left after the frame" 5.
 use Prim.Native.Nat.{ℕ}
-use mathlib.Core.List.{List, [], _∷_, _++_}
+use mathlib.Core.List.{List, [], _∷_}
 use lib.Dec.{eqb, ltb}
 use lib.ListN.{length}
 use Rattle.octets.specs.Word.{wordAt}

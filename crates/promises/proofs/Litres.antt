@@ -1,6 +1,6 @@
 -- Document 02, R-4: "Litres that add up." Each sentence as a theorem of every answer that a call's contract allows, by its number and values.
 use Prim.Native.Nat.{ℕ, suc, _+_, _*_, _^_, _≤_, _<_}
-use mathlib.Core.Bool.{Bool, true, false}
+use mathlib.Core.Bool.{true, false}
 use mathlib.Core.List.{List, [], _∷_}
 use mathlib.Core.Logic.{_↔_}
 use mathlib.Core.Path.{_≡_, refl, sym, ap, _∙_, subst}
@@ -8,22 +8,20 @@ use native.Mathlib.Omega.{arith}
 use lib.Dec.{eqb}
 use lib.IntN.{ℤ, pos, negsuc, natAbs, subℕ, _+ℤ_, _-ℤ_, _*ℤ_}
 use borrow.Author.Tests.{eqb-true, eqb-false, leb-true}
-use Rattle.octets.proofs.Truth.{by-cases, never, and-true}
+use Rattle.octets.proofs.Truth.{by-cases}
 use Rattle.octets.specs.Word.{wordAt}
-use Rattle.frame.proofs.Numbers.{number-apart, number-some}
-use Rattle.frame.specs.Answers.{Numbered, accepted, refused}
-use Rattle.frame.specs.Order.{answerBy, firstOf}
+use Rattle.frame.specs.Answers.{accepted, refused}
+use Rattle.frame.specs.Order.{answerBy}
 use Rattle.frame.specs.Refusals.{number}
-use Rattle.frame.specs.declared.Refusal.{Refusal}
-use Rattle.frame.specs.declared.Refusal.the-variants.{OutOfRange, Invalid, PastTotal}
-use Rattle.leak.proofs.Answers.{signed-apart, value-tells, coded-tells, added-tells}
-use Rattle.leak.proofs.Apart.{value-refused, unread-one, code-one, code-refused, unwritten-one, sum-refused, unadded-one, hundredths-one}
+use Rattle.frame.specs.declared.Refusal.the-variants.{Invalid, PastTotal}
+use Rattle.leak.proofs.Answers.{value-tells, coded-tells, added-tells}
+use Rattle.leak.proofs.Apart.{value-refused, code-one, code-refused, sum-refused, hundredths-one}
 use Rattle.leak.proofs.Chosen.{code-valid, written-chosen, chosen-one, mantissa-fits, value-reach, reach-of, in-reach}
 use Rattle.leak.proofs.Exactly.{value-by-bits, read-invalid, read-valid, write-within, write-beyond, add-invalid, add-past, add-within}
 use Rattle.leak.proofs.Series.{sum-is, total-after}
 use Rattle.leak.proofs.Written.{again, value-is}
-use Rattle.leak.specs.Answers.{signedValues, valueNumbered, codedNumbered, carriedNumbered, addedNumbered}
-use Rattle.leak.specs.Float.{exponentOf, mantissaOf, hundredthsOf}
+use Rattle.leak.specs.Answers.{signedValues, valueNumbered, codedNumbered, addedNumbered}
+use Rattle.leak.specs.Float.{exponentOf, hundredthsOf}
 use Rattle.leak.specs.Nearest.{Chosen}
 use Rattle.leak.specs.Reading.{codeTests, readCode, octetsTests, readOctets}
 use Rattle.leak.specs.Series.{Follows, left, acceptedOf, sumOf}

@@ -1,34 +1,24 @@
 -- A station that listens to one TP1 line: from octets to litres. What is counted, and what the total then is, of every answer that taking allows.
 use Prim.Native.Nat.{ℕ}
-use mathlib.Core.Bool.{Bool, true, false}
 use mathlib.Core.List.{List, [], _∷_}
 use mathlib.Core.Logic.{_↔_}
 use mathlib.Core.Path.{_≡_, refl, sym, ap, _∙_, subst}
-use native.Mathlib.Omega.{arith}
 use lib.IntN.{ℤ, _+ℤ_}
 use Rattle.frame.proofs.Numbers.{number-some}
 use Rattle.frame.specs.Answers.{Numbered, accepted}
 use Rattle.frame.specs.Refusals.{number}
-use Rattle.frame.specs.declared.Meaning.{Meaning}
-use Rattle.frame.specs.declared.Refusal.{Refusal}
-use Rattle.tp1.proofs.Answers.{tp1-tells}
-use Rattle.tp1.specs.Answers.{tp1Numbered}
-use Rattle.tp1.specs.Reading.{readTp1, payloadIn}
-use Rattle.tp1.specs.declared.Tp1Answer.the-variants.{Frame, Refused as Unread}
-use Rattle.coupler.specs.Memory.{isRepetition}
 use Rattle.leak.specs.Answers.{signedValues, addedNumbered}
 use Rattle.leak.specs.Float.{hundredthsOf}
-use Rattle.leak.specs.Increment.{isIncrement, incrementIn}
 use Rattle.leak.specs.Series.{sumOf}
 use Rattle.leak.specs.Total.{addTo}
 use Rattle.leak.specs.declared.Added.{Added}
 use Rattle.leak.specs.declared.Added.the-variants.{Sum, Refused as Unadded}
 use Rattle.station.proofs.Answers.{increment-as}
-use Rattle.station.proofs.Exactly.{Comes, recognised, comes, counted-is, uncounted-is, After, tallied}
+use Rattle.station.proofs.Exactly.{Comes, recognised, comes, counted-is, After, tallied}
 use Rattle.station.proofs.Series.{total-of-a-line}
 use Rattle.station.specs.Answers.{telegramNumbered}
 use Rattle.station.specs.Series.{Follows, left, counted}
-use Rattle.station.specs.Taking.{telegramIn, takenBy, keptBy}
+use Rattle.station.specs.Taking.{takenBy}
 use Rattle.station.specs.declared.Tally.{Tally}
 use Rattle.station.specs.declared.Telegram.{Telegram}
 use Rattle.station.specs.declared.Telegram.the-variants.{Increment, Repetition, OtherGroup, NoIncrement, Refused}

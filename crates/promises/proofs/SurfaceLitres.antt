@@ -1,25 +1,22 @@
 -- The C surface of R-4. Each sentence of include/klumdray.h about the answers, the total's block and a station's memory, as a theorem of every
 -- answer that the call's contract allows. A decoder is what the header's helpers work out (klumdray Decoding, specs).
 use Prim.Native.Nat.{ℕ, _≤_, _<_}
-use mathlib.Core.Bool.{Bool, true, false, cond, _&&_}
-use mathlib.Core.List.{List, [], _∷_}
-use mathlib.Core.Logic.{_↔_}
+use mathlib.Core.Bool.{true, false, _&&_}
+use mathlib.Core.List.{List}
 use mathlib.Core.Path.{_≡_, refl, sym, ap, _∙_, subst}
 use native.Mathlib.Omega.{arith}
-use lib.Dec.{ltb, eqb}
+use lib.Dec.{ltb}
 use lib.IntN.{ℤ, _+ℤ_}
 use lib.ListN.{length}
 use lib.Signed.{mag}
-use borrow.Author.Tests.{ltb-true, ltb-false, eqb-true, lt-ltb}
-use Rattle.octets.proofs.Truth.{by-cases, never, and-true}
+use borrow.Author.Tests.{ltb-true, lt-ltb}
+use Rattle.octets.proofs.Truth.{by-cases}
 use Rattle.octets.proofs.Word.{word-below}
 use Rattle.octets.specs.Octets.{octetAt, Octets}
 use Rattle.octets.specs.Word.{wordAt}
-use Rattle.frame.specs.Refusals.{number}
-use Rattle.frame.specs.declared.Refusal.{Refusal}
 use Rattle.frame.specs.declared.Refusal.the-variants.{OutOfRange}
 use Rattle.coupler.specs.Memory.{recalled}
-use Rattle.leak.proofs.Apart.{float-one, float-nothing, value-refused, hundredths-one}
+use Rattle.leak.proofs.Apart.{float-one, float-nothing, value-refused}
 use Rattle.leak.specs.Answers.{valueNumbered, codedNumbered, carriedNumbered, addedNumbered}
 use Rattle.leak.specs.Increment.{isIncrement, incrementIn}
 use Rattle.leak.specs.Reading.{readCode, readOctets}
@@ -34,7 +31,7 @@ use Rattle.leak.specs.declared.Added.the-variants.{Sum, Refused as Unadded}
 use Rattle.station.proofs.Apart.{increment-refused}
 use Rattle.station.proofs.Exactly.{code-small, After, tallied}
 use Rattle.station.specs.Answers.{telegramNumbered}
-use Rattle.station.specs.Taking.{takenBy, telegramIn}
+use Rattle.station.specs.Taking.{takenBy}
 use Rattle.station.specs.declared.Tally.{Tally}
 use Rattle.station.specs.declared.Telegram.{Telegram}
 use Rattle.station.specs.declared.Telegram.the-variants.{Increment, Repetition, OtherGroup, NoIncrement, Refused}

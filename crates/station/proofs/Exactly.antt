@@ -1,8 +1,7 @@
 -- What is counted, and by how much the total rises: the definition's tests one after the other.
 use Prim.Native.Nat.{ℕ, _<_}
-use mathlib.Core.Bool.{Bool, true, false}
+use mathlib.Core.Bool.{true, false}
 use mathlib.Core.List.{List}
-use mathlib.Core.Logic.{_↔_}
 use mathlib.Core.Path.{_≡_, refl, ap, subst}
 use native.Mathlib.Omega.{arith}
 use lib.IntN.{ℤ, _+ℤ_}
@@ -27,7 +26,6 @@ use Rattle.leak.specs.declared.Added.the-variants.{Sum, Refused as Unadded}
 use Rattle.leak.specs.declared.Carried.{Carried}
 use Rattle.leak.specs.declared.Carried.the-variants.{Float, Nothing}
 use Rattle.station.specs.Taking.{isTo, telegramOf, telegramBy, telegramFor, telegramIn, addedBy, summedBy, countedBy, takenBy}
-use Rattle.station.specs.declared.Tally.{Tally}
 use Rattle.station.specs.declared.Telegram.{Telegram}
 use Rattle.station.specs.declared.Telegram.the-variants.{Increment, Repetition, OtherGroup, NoIncrement, Refused}
 use Rattle.station.proofs.Apart.{apart, increment-one, increment-refused}

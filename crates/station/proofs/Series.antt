@@ -1,12 +1,11 @@
 -- Over any series of frames the total is the start and the values of what was counted: one answer after the other.
 use Prim.Native.Nat.{ℕ}
 use mathlib.Core.List.{List, [], _∷_}
-use mathlib.Core.Path.{_≡_, refl, sym, ap, _∙_, subst}
+use mathlib.Core.Path.{_≡_, sym, ap, _∙_, subst}
 use lib.IntN.{ℤ, _+ℤ_, +ℤ-idr, +ℤ-assoc}
 use Rattle.leak.specs.Float.{hundredthsOf}
 use Rattle.leak.specs.Series.{sumOf}
 use Rattle.station.specs.Series.{Follows, left, countedIn, counted}
-use Rattle.station.specs.Taking.{takenBy}
 use Rattle.station.specs.declared.Tally.{Tally}
 use Rattle.station.specs.declared.Telegram.{Telegram}
 use Rattle.station.specs.declared.Telegram.the-variants.{Increment, Repetition, OtherGroup, NoIncrement, Refused}

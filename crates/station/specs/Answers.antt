@@ -1,7 +1,6 @@
 -- The station's answers as numbers and values: 0 and what the frame is (1 an increment with its code, 2 a repetition, 3 to another group,
 -- 4 no increment), or the refusal's number; with it the total.
-use Prim.Native.Nat.{ℕ}
-use mathlib.Core.List.{List, [], _∷_}
+use mathlib.Core.List.{[], _∷_}
 use Rattle.frame.specs.Answers.{Numbered, accepted, refused}
 use Rattle.station.specs.declared.Telegram.{Telegram}
 use Rattle.station.specs.declared.Telegram.the-variants.{Increment, Repetition, OtherGroup, NoIncrement, Refused}

@@ -1,5 +1,5 @@
 -- The writer's answer as its number; the hundredths are taken back from their bits.
-use mathlib.Core.Path.{_≡_, ap, _∙_}
+use mathlib.Core.Path.{ap, _∙_}
 use mir.Facts.{toZ-ofZ}
 use borrow.Author.Needs.{needs}
 use Rattle.klumdray.specs.Litres.{codedNumber}

@@ -1,5 +1,4 @@
 -- One application of `added-fit` to what the calls ensure, in their order; a block or a code that does not fit is `added-unfit`'s.
-use mathlib.Core.Path.{_≡_}
 use mir.Facts.{toZ-ofZ}
 use mir.Syntax.{w64}
 use borrow.Author.Needs.{needs}

@@ -1,12 +1,11 @@
 -- The three answers of the order, by `Range`: the increment widened to 64 bits is the one that was read, and the sum that was asked for is
 -- the one that is made.
-use mathlib.Core.Path.{_≡_, sym, ap, _∙_}
+use mathlib.Core.Path.{sym, ap, _∙_}
 use mathlib.Core.Bool.{true, false}
 use lib.IntN.{ℤ, _+ℤ_}
 use mir.Syntax.{w32}
 use mir.Val.{SFits}
 use Rattle.leak.specs.declared.Added.the-variants.{Sum}
-use Rattle.leak.specs.Total.{inTotal}
 use Rattle.leak.proofs.Exactly.{add-invalid, add-past, add-within}
 use Rattle.leak.proofs.Range.{wide-fits, asked-is, sum-fits, sum-back}
 use borrow.Author.Needs.{needs}

@@ -1,5 +1,4 @@
 -- The code asks for what `isIncrement` says, of the octets that `octet` gives.
-use mathlib.Core.Path.{_≡_}
 use borrow.Author.Needs.{needs}
 use Rattle.leak.specs.Increment.{incrementIn}
 use Rattle.leak.proofs.increment.Statement.{statement}

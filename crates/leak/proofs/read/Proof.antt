@@ -1,5 +1,4 @@
 -- The one test of the order, as the code asks it; the value by the contract of `hundredths`, taken back from its bits.
-use mathlib.Core.Path.{_≡_}
 use mir.Facts.{toZ-ofZ}
 use borrow.Author.Tests.{eq-eqb, ne-eqb}
 use borrow.Author.Needs.{needs}

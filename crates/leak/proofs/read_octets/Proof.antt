@@ -1,5 +1,5 @@
 -- The two tests of the length, then the reader's own.
-use mathlib.Core.Path.{_≡_, ap, _∙_}
+use mathlib.Core.Path.{ap, _∙_}
 use borrow.Author.Needs.{needs}
 use borrow.Author.Tests.{lt-ltb, le-ltb}
 use Rattle.leak.specs.Reading.{readCode, readOctets}

@@ -1,5 +1,4 @@
 -- The reader's answer, case by case.
-use mathlib.Core.Path.{_≡_}
 use borrow.Author.Needs.{needs}
 use Rattle.station.specs.Taking.{telegramIn}
 use Rattle.station.proofs.recognise.Statement.{statement}

@@ -1,5 +1,4 @@
 -- What was recognised, case by case; an increment by `summed`. The total is taken back from its bits.
-use mathlib.Core.Path.{_≡_}
 use mir.Facts.{toZ-ofZ}
 use borrow.Author.Needs.{needs}
 use Rattle.station.specs.Taking.{takenBy}

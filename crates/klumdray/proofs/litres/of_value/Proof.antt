@@ -1,6 +1,6 @@
 -- Each arm knows its case of the value; the low 32 of its 64 bits are its 32 bits.
 use Prim.Native.Nat.{ℕ, _*_}
-use mathlib.Core.Path.{_≡_, ap, _∙_}
+use mathlib.Core.Path.{ap}
 use mir.Syntax.{w32}
 use mir.Val.{SFits}
 use borrow.Author.Needs.{needs}

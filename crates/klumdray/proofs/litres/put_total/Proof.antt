@@ -1,5 +1,4 @@
 -- The octets of the four fields, laid at the front of the block.
-use mathlib.Core.Path.{_≡_}
 use mir.Facts.{toZ-ofZ}
 use borrow.Author.Needs.{needs}
 use Rattle.klumdray.specs.Litres.{totalOctets}

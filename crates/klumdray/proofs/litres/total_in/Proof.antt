@@ -1,5 +1,5 @@
 -- The four fields, as `word_at` gives them; the number is taken back from its bits.
-use mathlib.Core.Path.{_≡_, _∙_}
+use mathlib.Core.Path.{_∙_}
 use mir.Facts.{toZ-ofZ}
 use borrow.Author.Needs.{needs}
 use Rattle.klumdray.specs.Litres.{totalIn}

@@ -1,21 +1,10 @@
-use Prim.Native.Nat.{ℕ, _*_, _/_, _%_, _^_, _<_}
-use mathlib.Core.Path.{_≡_, sym, ap, _∙_}
 use native.Mathlib.Omega.{arith}
-use lib.IntN.{ℤ, pos, _*ℤ_}
-use lib.Signed.{mag}
-use mir.Syntax.{w32}
-use mir.Val.{SFits, toZ, ofZ}
-use mir.Facts.{toZ-ofZ}
-use Rattle.leak.specs.Float.{mantissaOf, hundredthsOf, exponentOf}
-use Rattle.leak.proofs.Codes.{mantissa-mag}
+use Rattle.leak.specs.Float.{exponentOf}
 use Rattle.leak.proofs.Scale.{power-most, shifted-is}
 use Rattle.leak.proofs.Product.{product-fits, product-is}
 use borrow.Author.Needs.{needs}
 use Rattle.leak.proofs.reading.hundredths.Statement.{statement}
 use Rattle.leak.proofs.reading.hundredths.Tie as tie
-use Rattle.leak.proofs.reading.hundredths.Reads as reads
-use Rattle.leak.proofs.reading.hundredths.Lts as lts
-use Rattle.leak.proofs.reading.mantissa.Reads as mantissa-reads
 
 mantissa-requires : tie.Need-mantissa-requires
 mantissa-requires c κs = search needs

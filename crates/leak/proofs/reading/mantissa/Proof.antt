@@ -1,16 +1,10 @@
-use Prim.Native.Nat.{ℕ, _%_, _-_, _<_}
-use mathlib.Core.Path.{_≡_, sym, ap, _∙_}
+use mathlib.Core.Path.{sym, _∙_}
 use native.Mathlib.Omega.{arith}
-use lib.IntN.{ℤ, pos, negsuc, _-ℤ_}
-use mir.Syntax.{w32}
-use mir.Val.{SFits, toZ, ofZ}
-use mir.Facts.{toZ-pos, toZ-ofZ}
+use mir.Facts.{toZ-ofZ}
 use Rattle.leak.proofs.Codes.{mantissa-plus, mantissa-minus, low-toZ, lowered, lowered-fits}
 use borrow.Author.Needs.{needs}
 use Rattle.leak.proofs.reading.mantissa.Statement.{statement}
 use Rattle.leak.proofs.reading.mantissa.Tie as tie
-use Rattle.leak.proofs.reading.mantissa.Reads as reads
-use Rattle.leak.proofs.reading.mantissa.Lts as lts
 
 cast-low : tie.Need-cast-low
 cast-low c = search needs

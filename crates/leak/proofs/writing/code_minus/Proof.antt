@@ -1,16 +1,10 @@
-use Prim.Native.Nat.{_≤_, _<_, _*_, _+_}
-use mathlib.Core.Path.{_≡_, refl}
+use Prim.Native.Nat.{_+_}
 use native.Mathlib.Numerals.{add-one}
 use native.Mathlib.Omega.{arith}
-use Rattle.leak.specs.Stages.{exponentUnder}
 use Rattle.leak.proofs.Smallest.{exponent-most, minus-bounds, minus-code}
 use borrow.Author.Needs.{needs}
 use Rattle.leak.proofs.writing.code_minus.Statement.{statement}
 use Rattle.leak.proofs.writing.code_minus.Tie as tie
-use Rattle.leak.proofs.writing.code_minus.Reads as reads
-use Rattle.leak.proofs.writing.code_minus.Lts as lts
-use Rattle.leak.proofs.writing.exponent_under.Reads as exponent-under-reads
-use Rattle.leak.proofs.writing.nearest.Reads as nearest-reads
 
 add-exponent-under : tie.Need-add-exponent-under
 add-exponent-under c = search needs

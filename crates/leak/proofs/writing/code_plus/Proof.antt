@@ -1,15 +1,8 @@
-use Prim.Native.Nat.{_≤_, _<_, _*_, _+_}
-use mathlib.Core.Path.{_≡_, refl}
 use native.Mathlib.Omega.{arith}
-use Rattle.leak.specs.Stages.{exponentUnder}
 use Rattle.leak.proofs.Smallest.{exponent-most, plus-bounds, plus-code}
 use borrow.Author.Needs.{needs}
 use Rattle.leak.proofs.writing.code_plus.Statement.{statement}
 use Rattle.leak.proofs.writing.code_plus.Tie as tie
-use Rattle.leak.proofs.writing.code_plus.Reads as reads
-use Rattle.leak.proofs.writing.code_plus.Lts as lts
-use Rattle.leak.proofs.writing.exponent_under.Reads as exponent-under-reads
-use Rattle.leak.proofs.writing.nearest.Reads as nearest-reads
 
 exponent-under-requires : tie.Need-exponent-under-requires
 exponent-under-requires c κs = search needs

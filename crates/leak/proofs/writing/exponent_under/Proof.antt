@@ -1,15 +1,11 @@
-use Prim.Native.Nat.{_≤_, _<_, _-_, _^_}
+use Prim.Native.Nat.{_≤_, _-_}
 use mathlib.Core.Path.{_≡_, refl}
 use native.Mathlib.Numerals.{add-one}
 use native.Mathlib.Omega.{arith}
-use Rattle.leak.specs.Writing.{nearestTo}
 use Rattle.leak.specs.Stages.{firstUnder, exponentUnder}
 use Rattle.leak.proofs.Smallest.{under-here, under-next, under-last}
 use Rattle.leak.proofs.writing.exponent_under.Statement.{statement}
 use Rattle.leak.proofs.writing.exponent_under.Tie as tie
-use Rattle.leak.proofs.writing.exponent_under.Reads as reads
-use Rattle.leak.proofs.writing.exponent_under.Lts as lts
-use Rattle.leak.proofs.writing.nearest.Reads as nearest-reads
 
 abbrev Inv-loop : tie.InvT-loop
 Inv-loop most size exponent₀ exponent = (exponent ≤ 15) × (firstUnder most (15 - exponent) exponent size ≡ exponentUnder most size)

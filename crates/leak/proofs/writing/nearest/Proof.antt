@@ -1,15 +1,12 @@
-use Prim.Native.Nat.{_≤_, _<_, _*_, _/_, _%_, _^_}
-use mathlib.Core.Path.{_≡_}
+use Prim.Native.Nat.{_*_, _%_, _^_}
 use native.Mathlib.Nat.{div-le-self, mod-le}
 use native.Mathlib.Omega.{arith}
 use lib.Pow.{pow-pos}
-use Rattle.leak.proofs.Scale.{power-most, shifted-is}
+use Rattle.leak.proofs.Scale.{shifted-is}
 use Rattle.leak.proofs.NearestLaws.{nearest-down, nearest-up, nearest-tie}
 use borrow.Author.Needs.{needs}
 use Rattle.leak.proofs.writing.nearest.Statement.{statement}
 use Rattle.leak.proofs.writing.nearest.Tie as tie
-use Rattle.leak.proofs.writing.nearest.Reads as reads
-use Rattle.leak.proofs.writing.nearest.Lts as lts
 
 shl-unit : tie.Need-shl-unit
 shl-unit c = search needs
