@@ -1,3 +1,5 @@
+-- The loop keeps that the first exponent which serves, from the one at hand on, is the one wanted: found here (`under-here`), further on
+-- (`under-next`), or the last (`under-last`).
 use Prim.Native.Nat.{_≤_, _-_}
 use mathlib.Core.Path.{_≡_, refl}
 use native.Mathlib.Numerals.{add-one}
@@ -15,43 +17,25 @@ abbrev μ-loop : tie.MeasureT-loop
 
 loop-holds : tie.Need-loop-holds Inv-loop μ-loop
 unfolding exponentUnder
-loop-holds c =
-    (omega arith, refl)
-
-nearest-requires : tie.Need-nearest-requires Inv-loop μ-loop
-nearest-requires c κs =
-    omega arith
+loop-holds c = (omega arith, refl)
 
 returns : tie.Need-returns Inv-loop μ-loop
 returns c =
-    under-here (c .before .before .before .before .args .most) (c .before .before .before .before .args .size) (c .before .before .before .loop .exponent) (exponentUnder (c .before .before .before .before .args .most) (c .before .before .before .before .args .size)) (omega arith) (c .before .before .before .loop .inv .1) (omega (arith, c .before .nearest .ensures))
-
-add-exponent : tie.Need-add-exponent Inv-loop μ-loop
-add-exponent c =
-    omega arith
-
-loop-less : tie.Need-loop-less Inv-loop μ-loop
-loop-less c =
-    omega arith
+    let turn = c .before .before .before in
+    let a = turn .before .args in
+    under-here (a .most) (a .size) (turn .loop .exponent) (exponentUnder (a .most) (a .size)) (omega arith) (turn .loop .inv .1) (omega (arith, c .before .nearest .ensures))
 
 loop-again : tie.Need-loop-again Inv-loop μ-loop
 loop-again c =
-    (omega arith, rw add-one (under-next (c .before .before .before .before .args .most) (c .before .before .before .before .args .size) (c .before .before .before .loop .exponent) (exponentUnder (c .before .before .before .before .args .most) (c .before .before .before .before .args .size)) (omega arith) (c .before .before .before .loop .inv .1) (omega (arith, c .before .nearest .ensures))))
+    let turn = c .before .before .before in
+    let a = turn .before .args in
+    (omega arith, rw add-one (under-next (a .most) (a .size) (turn .loop .exponent) (exponentUnder (a .most) (a .size)) (omega arith) (turn .loop .inv .1) (omega (arith, c .before .nearest .ensures))))
 
 returns-2 : tie.Need-returns-2 Inv-loop μ-loop
 returns-2 c =
-    under-last (c .before .before .args .most) (c .before .before .args .size) (c .before .loop .exponent) (exponentUnder (c .before .before .args .most) (c .before .before .args .size)) (omega arith) (c .before .loop .inv .1)
+    let turn = c .before in
+    let a = turn .before .args in
+    under-last (a .most) (a .size) (turn .loop .exponent) (exponentUnder (a .most) (a .size)) (omega arith) (turn .loop .inv .1)
 
 pub exponent-under-spec : {M : Type 1} → statement M
-exponent-under-spec =
-    tie.close
-    (tie.spec
-    Inv-loop
-    μ-loop
-    loop-holds
-    nearest-requires
-    returns
-    add-exponent
-    loop-less
-    loop-again
-    returns-2)
+exponent-under-spec = tie.close (tie.spec Inv-loop μ-loop loop-holds (λ c κs. omega arith) returns (λ c. omega arith) (λ c. omega arith) loop-again returns-2)
