@@ -26,13 +26,13 @@ impl fmt::Display for Fault {
     }
 }
 
-/// How a command ends: 0, 1 for a refused site or frame, 2 for a fault in what was given, 3 where
+/// How a command ends: 0, 1 for a refused site or frame or a sum that there is not, 2 for a fault in what was given, 3 where
 /// the tool itself is at fault.
 #[derive(Clone, Copy, Debug, PartialEq, Eq, PartialOrd, Ord)]
 pub enum Status {
     /// The answer is on standard output.
     Answered = 0,
-    /// The proved library refuses the site or a frame.
+    /// The proved library refuses the site or a frame, or increments came by several ways.
     Refused = 1,
     /// A file or an argument cannot be read; standard error says where and what was expected.
     Faulty = 2,

@@ -11,6 +11,8 @@ pub enum Json {
     Flag(bool),
     /// A whole number.
     Number(u64),
+    /// A whole number that may be below 0.
+    Signed(i64),
     /// A text.
     Text(String),
     /// A list of values.
@@ -28,6 +30,18 @@ impl From<bool> for Json {
 impl From<usize> for Json {
     fn from(number: usize) -> Json {
         Json::Number(number as u64)
+    }
+}
+
+impl From<u64> for Json {
+    fn from(number: u64) -> Json {
+        Json::Number(number)
+    }
+}
+
+impl From<i64> for Json {
+    fn from(number: i64) -> Json {
+        Json::Signed(number)
     }
 }
 
@@ -69,6 +83,7 @@ impl fmt::Display for Json {
             Json::Null => write!(f, "null"),
             Json::Flag(flag) => write!(f, "{flag}"),
             Json::Number(number) => write!(f, "{number}"),
+            Json::Signed(number) => write!(f, "{number}"),
             Json::Text(text) => quote(f, text),
             Json::List(values) => {
                 write!(f, "[")?;

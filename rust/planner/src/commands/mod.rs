@@ -2,6 +2,7 @@
 
 pub mod check;
 pub mod decode;
+pub mod total;
 pub mod trace;
 
 use crate::arguments::{fault, quoted};
@@ -56,16 +57,19 @@ impl Streams<'_> {
 }
 
 const HELP: &str = "\
-klumdray: which lines a KNX telegram reaches, what a frame says, whether a site is well-formed
+klumdray: which lines a KNX telegram reaches, what a frame says, whether a site is well-formed, how
+many litres a leak meter has reported
 
   klumdray trace SITE --from LINE --group GROUP | --individual ADDRESS
                               the lines that a telegram reaches, and why not the others
   klumdray decode HEX | FILE  what a TP1 frame, cEMI message or KNXnet/IP datagram says
   klumdray check SITE         whether a site is well-formed, and what in it is probably not meant
+  klumdray total FILE --group GROUP
+                              the litres that a leak meter has reported, out of a capture
   klumdray COMMAND --help     more on a command
 
-Exit status: 0 answered; 1 the site or a frame is refused; 2 a file or an argument cannot be read;
-3 the tool itself is at fault.
+Exit status: 0 answered; 1 the site or a frame is refused, or there is no sum; 2 a file or an
+argument cannot be read; 3 the tool itself is at fault.
 ";
 
 /// Runs the command that the words name.
@@ -77,6 +81,7 @@ pub fn run(words: &[String], streams: &mut Streams<'_>) -> io::Result<Status> {
         "trace" => (trace::run as Run, trace::HELP),
         "decode" => (decode::run as Run, decode::HELP),
         "check" => (check::run as Run, check::HELP),
+        "total" => (total::run as Run, total::HELP),
         "--help" | "-h" | "help" => return streams.help(HELP),
         other => return streams.faulty(&[fault("klumdray", COMMANDS, &quoted(other))]),
     };
@@ -88,4 +93,4 @@ pub fn run(words: &[String], streams: &mut Streams<'_>) -> io::Result<Status> {
 
 type Run = fn(&[String], &mut Streams<'_>) -> io::Result<Status>;
 
-const COMMANDS: &str = "trace, decode, check or --help";
+const COMMANDS: &str = "trace, decode, check, total or --help";
