@@ -149,7 +149,7 @@ impl<'a> Reader<'a> {
     /// The octets between a block's two lengths, and of a section at least its head.
     fn inside(&self, start: u64, is_section: bool, length: u32) -> Result<u32, Broken> {
         let least = AROUND + if is_section { SECTION_HEAD } else { 0 };
-        if length < least || length % 4 != 0 {
+        if length < least || !length.is_multiple_of(4) {
             let expected = format!("a block's length, a multiple of 4 from {least} on");
             return Err(self
                 .source

@@ -8,6 +8,7 @@ pub enum Value {
     Null,
     Flag(bool),
     Number(u64),
+    Signed(i64),
     Text(String),
     List(Vec<Value>),
     Object(Vec<(String, Value)>),
@@ -46,7 +47,7 @@ impl Value {
 }
 
 /// Reads one value; none where the text is not JSON, names a member twice, or has a number that is
-/// not whole or is above 2^64 - 1.
+/// not whole or is above 2^64 - 1 or below -2^63.
 pub fn read(text: &str) -> Option<Value> {
     let mut rest = Rest(text.chars().peekable());
     let value = rest.value()?;
@@ -82,6 +83,7 @@ impl Rest<'_> {
             '"' => self.string().map(Value::Text),
             '[' => self.row('[', ']', Rest::value).map(Value::List),
             '{' => self.object(),
+            '-' => self.below_zero(),
             _ => self.number(),
         }
     }
@@ -93,6 +95,14 @@ impl Rest<'_> {
         }
         let led = digits.len() > 1 && digits.starts_with('0');
         digits.parse().ok().filter(|_| !led).map(Value::Number)
+    }
+
+    fn below_zero(&mut self) -> Option<Value> {
+        self.take('-')?;
+        match self.number()? {
+            Value::Number(size) => 0i64.checked_sub_unsigned(size).map(Value::Signed),
+            _ => None,
+        }
     }
 
     fn string(&mut self) -> Option<String> {
@@ -165,6 +175,7 @@ fn takes_json_and_nothing_else() {
     let value = read(r#" {"a": [1, null, true], "b": "\u000a\"", "c": {}} "#).unwrap();
     assert_eq!(value.text("b"), "\n\"");
     assert!(matches!(value.get("a"), Some(Value::List(items)) if items.len() == 3));
+    assert_eq!(read("-5"), Some(Value::Signed(-5)));
     let broken = [
         "",
         "{",
@@ -173,6 +184,8 @@ fn takes_json_and_nothing_else() {
         "{\"a\"}",
         "{\"a\": 1,}",
         "01",
+        "-",
+        "--1",
         "1 2",
         "nul",
         "'a'",

@@ -38,7 +38,7 @@ impl Progress {
         items: u64,
         what: &str,
     ) -> io::Result<()> {
-        if !self.is_watched || items % BETWEEN != 0 || self.told.elapsed() < PATIENCE {
+        if !self.is_watched || !items.is_multiple_of(BETWEEN) || self.told.elapsed() < PATIENCE {
             return Ok(());
         }
         self.told = Instant::now();
