@@ -29,8 +29,13 @@ pub fn told(answer: &Answer<'_>) -> Json {
     members.extend(total(answer.total()));
     members.extend(numbers(&answer.counts, question.place));
     members.extend(unread(answer));
-    if let (Outcome::Total(account), true) = (&answer.result, question.by_month) {
-        members.push(("months", months(account)));
+    if question.by_month {
+        let months = match answer.result {
+            Outcome::Nothing => Json::List(Vec::new()),
+            Outcome::Total(account) => months(account),
+            Outcome::NoSum | Outcome::NoSuchWay(_) => Json::Null,
+        };
+        members.push(("months", months));
     }
     let ways = answer.numbered().into_iter();
     let ways = ways.map(|account| way(answer, account)).collect();

@@ -71,6 +71,7 @@ fn way_rows(answer: &Answer<'_>) -> Vec<String> {
         rows.extend(ways(account));
         let mut own = vec![format!("total {} litres", shown(account.total()))];
         own.extend(count_rows(answer, &account.counts));
+        own.extend(some("refused", account.counts.refusals(), ""));
         own.extend(month_rows(answer, account));
         rows.extend(own.iter().map(|row| format!("  {row}")));
     }
