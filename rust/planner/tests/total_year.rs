@@ -18,8 +18,9 @@ use std::fs::File;
 use std::io::{BufWriter, Write};
 use std::time::Instant;
 use telegrams::{datagram, hundredths, increment, Telegram, GROUP};
-use totals::run_total;
+use totals::{run_total, Ended};
 
+/// Of a year.
 const MINUTES: u64 = 525_600;
 /// 2025-01-01 00:00:00 UTC.
 const NEW_YEAR: u64 = 1_735_689_600;
@@ -173,7 +174,8 @@ fn month_of(minute: u64) -> usize {
     panic!("the year has ended");
 }
 
-fn write_year(name: &str) -> Kept {
+/// Writes a year's capture with an increment every so many minutes.
+fn write_year(name: &str, every: usize) -> Kept {
     let file = File::create(name).expect("a file");
     let mut year = Year {
         file: BufWriter::new(file),
@@ -184,7 +186,7 @@ fn write_year(name: &str) -> Kept {
     let head = [section(ORDER), interface(ORDER, ETHERNET, 262_144, &[])].concat();
     year.file.write_all(&head).expect("the file takes it");
     let mut before = 0;
-    for minute in 0..MINUTES {
+    for minute in (0..MINUTES).step_by(every) {
         year.second = NEW_YEAR + minute * 60;
         let code = code(&mut year.chance);
         year.minute(&increment(code), month_of(minute), code, code == before);
@@ -220,23 +222,17 @@ fn peak() -> Option<u64> {
     Some(kilo * 1024)
 }
 
-#[test]
-fn the_total_of_a_year_is_exact() {
-    let name = format!("{}/year.pcapng", env!("CARGO_TARGET_TMPDIR"));
-    let kept = write_year(&name);
-    let (size, before) = (std::fs::metadata(&name).expect("the file").len(), peak());
-    let begun = Instant::now();
-    let ended = run_total(&[&name, "--group", "2/2/52", "--by", "month"], &[]);
-    let (took, after) = (begun.elapsed(), peak());
-
+/// Everything that is told is what the test has kept.
+fn assert_told(ended: &Ended, kept: &Kept, last: &str) {
     assert_eq!((ended.status, ended.errors.as_str()), (0, ""));
     let sum: i64 = kept.months.iter().sum();
     let refused: u64 = kept.refused.values().sum();
+    let counted = with_commas(kept.counted);
     let expected = [
         ("total", format!("{} litres", litres(sum))),
         (
             "counted",
-            "525,600 telegrams, 2025-01-01 00:00:00 to 2025-12-31 23:59:00 UTC".into(),
+            format!("{counted} telegrams, 2025-01-01 00:00:00 to 2025-12-31 {last} UTC"),
         ),
         ("repetitions", with_commas(kept.repetitions)),
         ("no increment", with_commas(kept.no_increment)),
@@ -253,24 +249,58 @@ fn the_total_of_a_year_is_exact() {
         let told = row.split_whitespace().next();
         assert_eq!(told, Some(with_commas(*count).as_str()), "{number}");
     }
+}
+
+fn assert_months_told(ended: &Ended, kept: &Kept, every: u64) {
     for (month, sum) in kept.months.iter().enumerate() {
-        let row = ended
-            .row(&format!("2025-{:02}", month + 1))
-            .expect("its row");
-        let cells: Vec<&str> = row.split_whitespace().collect();
-        let telegrams = with_commas(DAYS[month] * 1_440);
+        let row = ended.row(&format!("2025-{:02}", month + 1));
+        let cells: Vec<&str> = row.expect("its row").split_whitespace().collect();
+        let telegrams = with_commas(DAYS[month] * 1_440 / every);
         assert_eq!(cells, [litres(*sum).as_str(), telegrams.as_str()]);
     }
-    println!(
-        "{}: {size} octets, {} frames of the group",
-        name, kept.of_group
+}
+
+/// Where each call goes to an emulated process, the months are left to the hourly year below.
+#[test]
+fn the_total_of_a_year_is_exact() {
+    let name = format!("{}/year.pcapng", env!("CARGO_TARGET_TMPDIR"));
+    let kept = write_year(&name, 1);
+    assert_eq!(kept.counted, MINUTES);
+    let (size, before) = (std::fs::metadata(&name).expect("the file").len(), peak());
+    let is_emulated = klumdray::LINKED == "emulated";
+    let months: &[&str] = if is_emulated { &[] } else { &["--by", "month"] };
+    let begun = Instant::now();
+    let ended = run_total(
+        &[&[name.as_str(), "--group", "2/2/52"], months].concat(),
+        &[],
     );
-    println!("{took:?} by the library in {}", klumdray::LINKED);
+    let (took, after) = (begun.elapsed(), peak());
+
+    assert_told(&ended, &kept, "23:59:00");
+    if !is_emulated {
+        assert_months_told(&ended, &kept, 1);
+    }
+    println!(
+        "{name}: {size} octets, {} frames of the group",
+        kept.of_group
+    );
+    println!("{took:?} with the library of {}", klumdray::LINKED);
     if let (Some(before), Some(after)) = (before, after) {
         println!("{} octets of memory more at most", after - before);
         assert!(after - before < 8 << 20, "the file is held in memory");
     }
+    // tests/peers compares it with what tshark sees.
     if std::env::var_os("KLUMDRAY_KEEP_YEAR").is_none() {
         std::fs::remove_file(&name).expect("the file is removed");
     }
+}
+
+#[test]
+fn the_months_of_a_year_are_exact() {
+    let name = format!("{}/hourly.pcapng", env!("CARGO_TARGET_TMPDIR"));
+    let kept = write_year(&name, 60);
+    let ended = run_total(&[&name, "--group", "2/2/52", "--by", "month"], &[]);
+    assert_told(&ended, &kept, "23:00:00");
+    assert_months_told(&ended, &kept, 60);
+    std::fs::remove_file(&name).expect("the file is removed");
 }

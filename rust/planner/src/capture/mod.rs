@@ -1,6 +1,7 @@
 //! Captures of packets, pcap and pcapng, and the UDP datagrams in them. This is translation: whether
 //! a datagram is a telegram, and what it says, the library is asked.
 
+mod described;
 mod internet;
 mod link;
 mod pcap;
@@ -132,6 +133,13 @@ impl Order {
         match self {
             Order::High => u32::from_be_bytes(octets),
             Order::Low => u32::from_le_bytes(octets),
+        }
+    }
+
+    fn i64(self, octets: [u8; 8]) -> i64 {
+        match self {
+            Order::High => i64::from_be_bytes(octets),
+            Order::Low => i64::from_le_bytes(octets),
         }
     }
 

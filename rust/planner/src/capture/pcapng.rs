@@ -1,7 +1,7 @@
 //! pcapng: blocks, each with its kind and its length in front and its length once more behind.
 
+use super::described::{self, Described};
 use super::{Broken, Interface, Order, Packet, Source, LONGEST_PACKET};
-use crate::calendar::Moment;
 
 /// A block's kind and length in front, its length behind.
 const AROUND: u32 = 12;
@@ -14,22 +14,8 @@ const ENHANCED_PACKET: u32 = 6;
 /// Behind a block's length: order, versions and length of a section.
 const SECTION_HEAD: u32 = 16;
 const PACKET_HEAD: usize = 20;
-/// An option of an interface: units of a second.
-const RESOLUTION: u16 = 9;
-/// An option of an interface: seconds to add to each time.
-const LATE: u16 = 14;
 /// No machine has as many; each is remembered.
 const MOST_INTERFACES: usize = 4_096;
-
-/// How an interface's packets are read.
-#[derive(Clone, Copy)]
-struct Described {
-    link: u16,
-    /// The most octets that were kept of a packet; 0 for all.
-    most: u32,
-    each_second: u128,
-    late: i64,
-}
 
 /// A packet whose octets are in the room.
 struct Kept {
@@ -81,20 +67,14 @@ impl<'a> Reader<'a> {
     }
 
     fn described(&self, kept: Kept) -> Packet<'_> {
-        let Described {
-            link,
-            each_second,
-            late,
-            ..
-        } = self.interfaces[kept.interface as usize];
-        let time = |units| Moment::by_units(units, each_second, late);
+        let described = &self.interfaces[kept.interface as usize];
         Packet {
             interface: Interface {
                 section: self.sections - 1,
                 number: kept.interface,
             },
-            link,
-            time: kept.units.and_then(time),
+            link: described.link,
+            time: kept.units.and_then(|units| described.time(units)),
             octets: &self.room,
         }
     }
@@ -173,79 +153,14 @@ impl<'a> Reader<'a> {
 
     /// Reads an interface's description, and says how many octets it has taken.
     fn interface(&mut self, start: u64, inside: u32) -> Result<u32, Broken> {
-        let mut head = [0; 8];
-        self.hold(start, inside, head.len())?;
-        self.source.fill(&mut head, "an interface's description")?;
-        let [l0, l1, _, _, most @ ..] = head;
-        let mut described = Described {
-            link: self.order.u16([l0, l1]),
-            most: self.order.u32(most),
-            each_second: 1_000_000,
-            late: 0,
-        };
-        let mut left = inside - 8;
-        while left >= 4 && self.option(&mut left, &mut described)? {}
+        self.hold(start, inside, described::HEAD)?;
+        let (described, used) = Described::read(&mut self.source, self.order, inside)?;
         if self.interfaces.len() >= MOST_INTERFACES {
             let expected = format!("at most {MOST_INTERFACES} interfaces");
             return Err(self.source.broken(start, &expected, "another"));
         }
         self.interfaces.push(described);
-        Ok(inside - left)
-    }
-
-    /// Reads an option of an interface, and says whether another may follow.
-    fn option(&mut self, left: &mut u32, described: &mut Described) -> Result<bool, Broken> {
-        let place = self.source.octet();
-        let mut head = [0; 4];
-        self.source.fill(&mut head, "an option")?;
-        *left -= 4;
-        let [code @ .., s0, s1] = head;
-        let (code, size) = (self.order.u16(code), self.order.u16([s0, s1]));
-        let padded = u32::from(size).next_multiple_of(4);
-        if padded > *left {
-            let expected = format!("an option of at most {left} octets");
-            return Err(self.source.broken(place + 2, &expected, &size.to_string()));
-        }
-        *left -= padded;
-        let mut value = [0; 8];
-        match (code, size) {
-            (RESOLUTION, 1) | (LATE, 8) => {
-                self.source
-                    .fill(&mut value[..padded as usize], "an option")?;
-                self.clock(place, code, value, described)?;
-            }
-            _ => self.source.skip(padded.into(), "an option")?,
-        }
-        Ok(code != 0)
-    }
-
-    fn clock(
-        &self,
-        place: u64,
-        code: u16,
-        value: [u8; 8],
-        described: &mut Described,
-    ) -> Result<(), Broken> {
-        if code == LATE {
-            let late = match self.order {
-                Order::High => i64::from_be_bytes(value),
-                Order::Low => i64::from_le_bytes(value),
-            };
-            described.late = late;
-            return Ok(());
-        }
-        let power = u32::from(value[0] & 0x7f);
-        let each_second = match value[0] >> 7 {
-            0 => 10u128.checked_pow(power),
-            _ => 2u128.checked_pow(power),
-        };
-        let faulty = || {
-            let expected = "a resolution of time down to 10 to the -38";
-            let found = format!("10 to the -{power}");
-            self.source.broken(place + 4, expected, &found)
-        };
-        described.each_second = each_second.ok_or_else(faulty)?;
-        Ok(())
+        Ok(used)
     }
 
     /// Reads a packet that says its interface and its time.

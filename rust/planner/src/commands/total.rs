@@ -99,7 +99,7 @@ impl<'a> Answer<'a> {
     fn of(asked: &'a Asked, heard: &'a Heard) -> Answer<'a> {
         let ledger = &heard.ledger;
         let result = outcome(ledger);
-        let mut counts = ledger.refused.clone();
+        let mut counts = ledger.aside.counts.clone();
         match (&result, asked.question.chosen.is_empty()) {
             (Outcome::Total(account), false) => counts.add(&account.counts),
             _ => ledger

@@ -1,9 +1,9 @@
 //! All that was heard, way by way.
 
 use super::session::Session;
-use super::{Account, Counts, Message, Way};
+use super::{Account, Aside, Message, Way};
 use crate::calendar::{Moment, Offset};
-use crate::capture::{Datagram, Interface, Unread};
+use crate::capture::{Datagram, Interface};
 use crate::frame::{tell, Content, Frame, Kind, Told};
 use klumdray::cemi::Code;
 use klumdray::station::Taken;
@@ -12,9 +12,6 @@ use std::collections::HashMap;
 
 /// No installation has as many; each is remembered.
 pub const MOST_WAYS: usize = 4_096;
-
-/// The service by which a router says that it has lost telegrams, ROUTING_LOST_MESSAGE.
-const LOST_MESSAGE: [u8; 2] = [0x05, 0x31];
 
 /// What is asked of the telegrams.
 #[derive(Clone, Debug)]
@@ -46,22 +43,8 @@ pub struct Ledger {
     numbered: usize,
     /// The place of the account of the ways that are chosen.
     chosen: Option<usize>,
-    /// Refusals of octets that no way is known of.
-    pub refused: Counts,
-    /// Lines of which it is not to be told what they are.
-    pub untold: u64,
-    /// KNXnet/IP datagrams of other services.
-    pub other_services: u64,
-    /// Of these, routers' notes that they have lost telegrams.
-    pub lost: u64,
-    /// Packets that are no UDP datagrams of the port.
-    pub other_packets: u64,
-    /// Packets that begin a datagram sent in several.
-    pub fragments: u64,
-    /// Packets cut short.
-    pub cut: u64,
-    /// Packets of links that are not read.
-    pub other_links: u64,
+    /// What no way is known of.
+    pub aside: Aside,
 }
 
 impl Ledger {
@@ -74,14 +57,7 @@ impl Ledger {
             sessions: HashMap::new(),
             numbered: 0,
             chosen: None,
-            refused: Counts::default(),
-            untold: 0,
-            other_services: 0,
-            lost: 0,
-            other_packets: 0,
-            fragments: 0,
-            cut: 0,
-            other_links: 0,
+            aside: Aside::default(),
         }
     }
 
@@ -100,16 +76,6 @@ impl Ledger {
         self.chosen.map(|place| &self.accounts[place])
     }
 
-    /// A packet that is not read.
-    pub fn unread(&mut self, unread: Unread) {
-        match unread {
-            Unread::Other => self.other_packets += 1,
-            Unread::Fragment => self.fragments += 1,
-            Unread::Cut => self.cut += 1,
-            Unread::Link => self.other_links += 1,
-        }
-    }
-
     /// A datagram of the port: the readers are asked what it is.
     pub fn datagram(
         &mut self,
@@ -121,7 +87,7 @@ impl Ledger {
             Ok(frame) => self.message(Way::routing(interface, datagram), &frame.into(), time),
             Err(Refusal::SERVICE) => self.tunnelled(interface, datagram, time),
             Err(refusal) => {
-                self.refused.refuse(refusal);
+                self.aside.counts.refuse(refusal);
                 Ok(())
             }
         }
@@ -142,7 +108,7 @@ impl Ledger {
             Err(Refusal::SERVICE) => {
                 self.other_service(datagram.octets, |way| way.is_between(interface, datagram));
             }
-            Err(refusal) => self.refused.refuse(refusal),
+            Err(refusal) => self.aside.counts.refuse(refusal),
         }
         Ok(())
     }
@@ -156,8 +122,8 @@ impl Ledger {
     ) -> Result<(), Crowded> {
         match tell(octets, kind) {
             Told::Accepted(Content::Frame(frame)) => self.frame(octets, &frame, time)?,
-            Told::Accepted(Content::Acknowledgement(_)) => self.other_services += 1,
-            Told::Refused(_, refusal) => self.refused.refuse(refusal),
+            Told::Accepted(Content::Acknowledgement(_)) => self.aside.other_service(octets),
+            Told::Refused(_, refusal) => self.aside.counts.refuse(refusal),
             Told::Untold { .. } => self.untold(octets),
         }
         Ok(())
@@ -180,7 +146,7 @@ impl Ledger {
 
     fn untold(&mut self, octets: &[u8]) {
         if routing::read(octets) != Err(Refusal::SERVICE) {
-            self.untold += 1;
+            self.aside.untold += 1;
             return;
         }
         self.other_service(octets, |way| *way == Way::Text);
@@ -189,8 +155,7 @@ impl Ledger {
     /// A datagram of another service is told as such. A session that it opens begins anew, where
     /// its way is one between the datagram's ends.
     fn other_service(&mut self, octets: &[u8], is_between: impl Fn(&Way) -> bool) {
-        self.other_services += 1;
-        self.lost += u64::from(octets.get(2..4) == Some(&LOST_MESSAGE));
+        self.aside.other_service(octets);
         let Some(channel) = opened_channel(octets) else {
             return;
         };

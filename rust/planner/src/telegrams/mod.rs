@@ -3,12 +3,14 @@
 //! its station what is counted.
 
 mod account;
+mod aside;
 mod ledger;
 pub mod lines;
 mod session;
 mod way;
 
 pub use account::{Account, Counts, MonthSum};
+pub use aside::Aside;
 pub use ledger::{Crowded, Ledger, Question};
 pub use way::Way;
 

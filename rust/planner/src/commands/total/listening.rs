@@ -141,7 +141,7 @@ impl<'a> Listener<'a> {
                 .ledger
                 .datagram(packet.interface, &datagram, packet.time),
             Err(unread) => {
-                self.ledger.unread(unread);
+                self.ledger.aside.unread(unread);
                 Ok(())
             }
         }

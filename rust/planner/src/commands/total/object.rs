@@ -92,15 +92,15 @@ fn numbers(counts: &Counts, place: Offset) -> Members {
 
 /// What no way is known of.
 fn unread(answer: &Answer<'_>) -> Members {
-    let ledger = answer.ledger();
+    let aside = &answer.ledger().aside;
     vec![
-        ("no_kind", ledger.untold.into()),
-        ("other_services", ledger.other_services.into()),
-        ("lost_messages", ledger.lost.into()),
-        ("cut", ledger.cut.into()),
-        ("fragmented", ledger.fragments.into()),
-        ("other_links", ledger.other_links.into()),
-        ("other_packets", ledger.other_packets.into()),
+        ("no_kind", aside.untold.into()),
+        ("other_services", aside.other_services.into()),
+        ("lost_messages", aside.lost.into()),
+        ("cut", aside.cut.into()),
+        ("fragmented", aside.fragments.into()),
+        ("other_links", aside.other_links.into()),
+        ("other_packets", aside.other_packets.into()),
     ]
 }
 

@@ -141,7 +141,7 @@ fn some(what: &str, number: u64, behind: &str) -> Option<String> {
 
 /// Refusals by number, with the paper's words.
 fn refused_rows(answer: &Answer<'_>) -> Vec<String> {
-    let untold = answer.ledger().untold;
+    let untold = answer.ledger().aside.untold;
     let sum = thousands(answer.counts.refusals() + untold);
     let mut cells: Vec<(String, String, &str)> = Vec::new();
     for (number, count) in &answer.counts.refused {
@@ -161,15 +161,15 @@ fn refused_rows(answer: &Answer<'_>) -> Vec<String> {
 
 /// What was not read, and why.
 fn unread_rows(answer: &Answer<'_>) -> impl Iterator<Item = String> {
-    let ledger = answer.ledger();
+    let aside = &answer.ledger().aside;
     let lost = "routers tell of lost telegrams";
     let rows = [
-        some("other services", ledger.other_services, ""),
-        some(lost, ledger.lost, "an increment may be among them"),
-        some("cut short, not read", ledger.cut, ""),
-        some("fragmented, not read", ledger.fragments, ""),
-        some("other link types, not read", ledger.other_links, ""),
-        some("other packets", ledger.other_packets, ""),
+        some("other services", aside.other_services, ""),
+        some(lost, aside.lost, "an increment may be among them"),
+        some("cut short, not read", aside.cut, ""),
+        some("fragmented, not read", aside.fragments, ""),
+        some("other link types, not read", aside.other_links, ""),
+        some("other packets", aside.other_packets, ""),
     ];
     rows.into_iter().flatten()
 }
