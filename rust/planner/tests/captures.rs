@@ -23,6 +23,9 @@ fn two() -> [Telegram; 2] {
     [increment(0x0c1a), increment(0x0c1b)]
 }
 
+/// Whether it is one of the captures on all interfaces that cannot tell them apart.
+const ALL_INTERFACES: &str = "cooked";
+
 fn assert_counted(ended: &Ended, context: &str) {
     assert_eq!(
         ended.row("total"),
@@ -32,7 +35,10 @@ fn assert_counted(ended: &Ended, context: &str) {
     let counted = ended.row("counted").expect(context);
     assert!(counted.starts_with("2 telegrams"), "{context}: {counted}");
     assert_eq!(ended.row("refused"), Some("0"), "{context}: {ended:?}");
-    assert_eq!((ended.status, ended.errors.as_str()), (0, ""), "{context}");
+    assert_eq!(ended.status, 0, "{context}");
+    let is_noted = ended.errors.starts_with("klumdray: note: captured on all");
+    assert_eq!(is_noted, context == ALL_INTERFACES, "{}", ended.errors);
+    assert!(is_noted || ended.errors.is_empty(), "{}", ended.errors);
 }
 
 /// A pcap file with a packet each second.
@@ -83,7 +89,7 @@ fn reads_every_link_type() {
         ("one tag", tagged(tag.to_vec())),
         ("two tags", tagged([outer, tag].concat())),
         (
-            "cooked",
+            ALL_INTERFACES,
             head(113, &[0, 0, 0, 1, 0, 6, 1, 2, 3, 4, 5, 6, 0, 0, 8, 0]),
         ),
         (
@@ -353,4 +359,21 @@ fn asks_of_a_capture_what_a_capture_has() {
         .errors
         .starts_with("klumdray: nowhere.pcap: expected a capture"));
     assert_eq!(ended.status, 2);
+}
+
+#[test]
+fn says_what_a_file_of_another_kind_begins_with() {
+    for (file, begun) in [
+        (&b"snoop\0\0\0"[..], None),
+        (&[0xa1, 0xb2, 0xcd, 0x34, 0, 0], Some("A1 B2 CD 34")),
+        (&[0xd4, 0xc3], Some("D4 C3")),
+        (&[0xff, 0xfe, b'B', 0], Some("FF FE 42 00")),
+    ] {
+        let ended = total(&[], file);
+        assert_eq!(ended.status, 2);
+        if let Some(begun) = begun {
+            let said = format!("found a file that begins with {begun}\n");
+            assert!(ended.errors.ends_with(&said), "{}", ended.errors);
+        }
+    }
 }

@@ -305,3 +305,57 @@ fn routers_notes_of_lost_telegrams_are_told() {
     let lost = Some("1, an increment may be among them");
     assert_eq!(ended.row("routers tell of lost telegrams"), lost);
 }
+
+#[test]
+fn packets_that_stand_in_the_capture_twice_are_told() {
+    let one = from_router(&increment(0x0c1a).routing());
+    let packets = |numbers: &[u16]| -> Vec<Vec<u8>> {
+        let packets = numbers.iter().map(|number| numbered(one.clone(), *number));
+        packets.collect()
+    };
+    let ended = total(&[], &capture(&packets(&[7, 7, 8, 8, 9])));
+    assert_eq!(
+        (ended.status, ended.row("total")),
+        (0, Some("105.00 litres"))
+    );
+    assert_eq!(ended.row("captured twice"), Some("2, each time counted"));
+    assert!(ended
+        .errors
+        .starts_with("klumdray: note: packets stand in the capture twice"));
+    // A sender that does not number its packets may send the same octets again.
+    for numbers in [[0, 0, 0], [1, 2, 3]] {
+        let ended = total(&[], &capture(&packets(&numbers)));
+        assert_eq!(
+            (ended.row("captured twice"), ended.errors.as_str()),
+            (None, "")
+        );
+    }
+}
+
+#[test]
+fn a_capture_on_all_interfaces_is_told_apart_where_it_can_be() {
+    let one = from_router(&increment(0x0c1a).routing());
+    let file = |link, heads: [&[u8]; 2]| {
+        let packets = heads.map(|head| pcap_packet(ORDER, 1, 0, &[head, &one].concat()));
+        [pcap_head(ORDER, false, link), packets.concat()].concat()
+    };
+    let cooked: &[u8] = &[0, 0, 0, 1, 0, 6, 1, 2, 3, 4, 5, 6, 0, 0, 8, 0];
+    let ended = total(&[], &file(113, [cooked, cooked]));
+    assert_eq!(
+        (ended.status, ended.row("total")),
+        (0, Some("42.00 litres"))
+    );
+    assert!(ended
+        .errors
+        .starts_with("klumdray: note: captured on all interfaces at once"));
+    let of = |index| {
+        [
+            8, 0, 0, 0, 0, 0, 0, index, 0, 1, 0, 6, 1, 2, 3, 4, 5, 6, 0, 0,
+        ]
+    };
+    let ended = total(&[], &file(276, [&of(2), &of(3)]));
+    assert_eq!((ended.status, ended.errors.as_str()), (1, NO_SUM));
+    let way = "\nway 2: routing from 192.168.1.10, interface 0 (3 of the system)\n";
+    assert!(ended.output.contains(way), "{}", ended.output);
+    assert_eq!(total(&[], &file(276, [&of(2), &of(2)])).status, 0);
+}

@@ -9,6 +9,8 @@ const UDP: u8 = 17;
 pub struct Carried<'a> {
     pub from: IpAddr,
     pub to: IpAddr,
+    /// The number that its sender gave the packet; 0 where it gave none.
+    pub identification: u16,
     /// The octets that are there, without what a link puts behind a short packet.
     pub octets: &'a [u8],
     /// Whether the head announces more.
@@ -41,6 +43,7 @@ fn version_4(octets: &[u8]) -> Result<Carried<'_>, Unread> {
     Ok(Carried {
         from: address(12).into(),
         to: address(16).into(),
+        identification: u16::from_be_bytes([head[4], head[5]]),
         octets: rest,
         is_cut,
         is_fragment: more,
@@ -77,6 +80,7 @@ fn version_6(octets: &[u8]) -> Result<Carried<'_>, Unread> {
     Ok(Carried {
         from: address(8).into(),
         to: address(24).into(),
+        identification: 0,
         octets: rest,
         is_cut,
         is_fragment,

@@ -8,6 +8,7 @@ pub const KNOWN: &str = "Ethernet, Linux cooked, raw IP or loopback";
 const NULL: u16 = 0;
 const ETHERNET: u16 = 1;
 const LOOP: u16 = 108;
+/// As packets are captured on all interfaces at once; the second form says which one it was.
 const COOKED: u16 = 113;
 const COOKED_2: u16 = 276;
 /// Raw IP has three numbers, and one more for each version.
@@ -21,6 +22,22 @@ const TAGS: [u16; 3] = [0x8100, 0x88a8, 0x9100];
 pub fn is_known(link: u16) -> bool {
     let others = [NULL, ETHERNET, LOOP, COOKED, COOKED_2];
     others.contains(&link) || RAW.contains(&link)
+}
+
+/// Whether a packet may stand in the capture once for each interface that it crossed, and nothing in
+/// it tells them apart.
+pub fn is_blurred(link: u16) -> bool {
+    link == COOKED
+}
+
+/// The system's number of the interface that a packet was captured on, where its link says so.
+pub fn index(link: u16, octets: &[u8]) -> Option<u32> {
+    match (link, octets) {
+        (COOKED_2, [_, _, _, _, i0, i1, i2, i3, ..]) => {
+            Some(u32::from_be_bytes([*i0, *i1, *i2, *i3]))
+        }
+        _ => None,
+    }
 }
 
 /// The IP packet in a captured one, and whatever stands behind it.

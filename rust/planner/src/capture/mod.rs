@@ -25,6 +25,8 @@ pub struct Interface {
     pub section: u32,
     /// The interface in it, from 0.
     pub number: u32,
+    /// Of a capture on all interfaces at once (Linux cooked 2), the system's number of the one.
+    pub index: Option<u32>,
 }
 
 /// A packet as it was captured.

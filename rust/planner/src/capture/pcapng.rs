@@ -72,6 +72,7 @@ impl<'a> Reader<'a> {
             interface: Interface {
                 section: self.sections - 1,
                 number: kept.interface,
+                index: None,
             },
             link: described.link,
             time: kept.units.and_then(|units| described.time(units)),

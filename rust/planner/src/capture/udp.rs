@@ -1,7 +1,7 @@
 //! UDP datagrams out of packets.
 
 use super::internet::{carried, Carried};
-use super::{link, Packet};
+use super::{link, Interface, Packet};
 use std::net::SocketAddr;
 
 const HEAD: usize = 8;
@@ -9,10 +9,16 @@ const HEAD: usize = 8;
 /// A UDP datagram: its ends and what it carries.
 #[derive(Clone, Copy, Debug, PartialEq, Eq)]
 pub struct Datagram<'a> {
+    /// Where it was captured.
+    pub interface: Interface,
+    /// Whether its packet may stand in the capture once for each interface that it crossed.
+    pub is_blurred: bool,
     /// Who sent it.
     pub from: SocketAddr,
     /// To whom.
     pub to: SocketAddr,
+    /// The number that its sender gave the packet; 0 where it gave none.
+    pub identification: u16,
     /// What it carries.
     pub octets: &'a [u8],
 }
@@ -48,8 +54,14 @@ pub fn datagram<'a>(packet: &Packet<'a>, port: u16) -> Result<Datagram<'a>, Unre
     let length = usize::from(u16::from_be_bytes([l0, l1]));
     let octets = octets.get(HEAD..length).filter(|_| !carried.is_cut);
     Ok(Datagram {
+        interface: Interface {
+            index: link::index(packet.link, packet.octets),
+            ..packet.interface
+        },
+        is_blurred: link::is_blurred(packet.link),
         from: SocketAddr::new(from, source),
         to: SocketAddr::new(to, destination),
+        identification: carried.identification,
         octets: octets.ok_or(Unread::Cut)?,
     })
 }

@@ -142,9 +142,7 @@ impl<'a> Answer<'a> {
         let mut status = Status::Answered;
         match self.result {
             Outcome::NoSum => {
-                let what = "increments came by several ways, so there is no sum: a telegram may \
-                            have come by more than one; choose by --way";
-                writeln!(streams.errors, "klumdray: {what}")?;
+                writeln!(streams.errors, "klumdray: {NO_SUM}")?;
                 status = Status::Refused;
             }
             Outcome::NoSuchWay(number) => {
@@ -155,19 +153,42 @@ impl<'a> Answer<'a> {
                 let fault = fault("--way", &expected, &format!("'{number}'"));
                 status = streams.faulty(&[fault])?;
             }
-            Outcome::Total(account) if account.is_mixed => {
-                let what = "note: the chosen ways overlap; a telegram that came by two of them is \
-                            counted twice";
-                writeln!(streams.errors, "klumdray: {what}")?;
+            Outcome::Total(account) => {
+                for note in self.notes(account) {
+                    writeln!(streams.errors, "klumdray: note: {note}")?;
+                }
             }
-            _ => {}
+            Outcome::Nothing => {}
         }
         if let Some(stopped) = &self.heard.stopped {
             status = status.max(streams.faulty(&[stopped.fault(&self.asked.name())])?);
         }
         Ok(status)
     }
+
+    /// What may have been counted twice.
+    fn notes(&self, account: &Account) -> impl Iterator<Item = &'static str> {
+        let notes = [
+            (account.is_mixed, MIXED),
+            (account.counts.twins > 0, TWINS),
+            (self.ledger().aside.blurred > 0, BLURRED),
+        ];
+        notes
+            .into_iter()
+            .filter_map(|(is_so, note)| is_so.then_some(note))
+    }
 }
+
+const NO_SUM: &str =
+    "increments came by several ways, so there is no sum: a telegram may have come \
+                      by more than one; choose by --way";
+const MIXED: &str = "the chosen ways overlap; a telegram that came by two of them is counted twice";
+const TWINS: &str =
+    "packets stand in the capture twice and are counted twice; take the second ones \
+                     out, as by editcap -d, and count again";
+const BLURRED: &str =
+    "captured on all interfaces at once; a packet that crossed two of them stands in \
+                       the capture twice and is counted twice";
 
 fn outcome(ledger: &Ledger) -> Outcome<'_> {
     let chosen = &ledger.question.chosen;

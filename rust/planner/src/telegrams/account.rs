@@ -2,6 +2,7 @@
 
 use super::{Question, Way};
 use crate::calendar::{Moment, Month};
+use crate::capture::Datagram;
 use klumdray::leak::Total;
 use klumdray::station::{Station, Taken};
 use klumdray::Refusal;
@@ -28,6 +29,8 @@ pub struct Counts {
     pub sent_again: u64,
     /// Places where tunnelling requests are missing.
     pub gaps: u64,
+    /// Routing datagrams whose packet stands in the capture twice.
+    pub twins: u64,
     /// Refusals by number.
     pub refused: BTreeMap<u8, u64>,
 }
@@ -49,6 +52,8 @@ pub struct Account {
     /// The numbers.
     pub counts: Counts,
     months: BTreeMap<Option<Month>, MonthSum>,
+    /// Number and octets of the routing datagram before.
+    before: (u16, Vec<u8>),
     /// The place among the ways of the one that was counted last.
     latest: usize,
     /// Whether one of several ways was heard again after a later one: a telegram may have come by
@@ -79,6 +84,7 @@ impl Counts {
         self.not_indications += other.not_indications;
         self.sent_again += other.sent_again;
         self.gaps += other.gaps;
+        self.twins += other.twins;
         for (number, count) in &other.refused {
             *self.refused.entry(*number).or_default() += count;
         }
@@ -115,6 +121,7 @@ impl Account {
             station: Station::new(question.group, question.start),
             counts: Counts::default(),
             months: BTreeMap::new(),
+            before: (0, Vec::new()),
             latest: 0,
             is_mixed: false,
         }
@@ -128,6 +135,18 @@ impl Account {
     /// The sums of the months, what has no time first.
     pub fn months(&self) -> impl Iterator<Item = (Option<Month>, &MonthSum)> {
         self.months.iter().map(|(month, sum)| (*month, sum))
+    }
+
+    /// Looks whether a routing datagram is the very packet before once more. A sender numbers its
+    /// packets, so the same number and the same octets were captured twice; a sender that gives none
+    /// has 0.
+    pub fn compare(&mut self, datagram: &Datagram<'_>) {
+        let number = datagram.identification;
+        let is_same = self.before.0 == number && self.before.1 == datagram.octets;
+        self.counts.twins += u64::from(is_same && number != 0);
+        self.before.0 = number;
+        self.before.1.clear();
+        self.before.1.extend_from_slice(datagram.octets);
     }
 
     /// The station takes a TP1 frame; nothing is noted yet.

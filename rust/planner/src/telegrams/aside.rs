@@ -25,6 +25,8 @@ pub struct Aside {
     pub cut: u64,
     /// Packets of links that are not read.
     pub other_links: u64,
+    /// Datagrams whose packets may stand in the capture once for each interface that they crossed.
+    pub blurred: u64,
 }
 
 impl Aside {

@@ -3,7 +3,7 @@
 use super::session::Session;
 use super::{Account, Aside, Message, Way};
 use crate::calendar::{Moment, Offset};
-use crate::capture::{Datagram, Interface};
+use crate::capture::Datagram;
 use crate::frame::{tell, Content, Frame, Kind, Told};
 use klumdray::cemi::Code;
 use klumdray::station::Taken;
@@ -79,13 +79,18 @@ impl Ledger {
     /// A datagram of the port: the readers are asked what it is.
     pub fn datagram(
         &mut self,
-        interface: Interface,
         datagram: &Datagram<'_>,
         time: Option<Moment>,
     ) -> Result<(), Crowded> {
+        self.aside.blurred += u64::from(datagram.is_blurred);
         match routing::read(datagram.octets) {
-            Ok(frame) => self.message(Way::routing(interface, datagram), &frame.into(), time),
-            Err(Refusal::SERVICE) => self.tunnelled(interface, datagram, time),
+            Ok(frame) => {
+                let way = Way::routing(datagram);
+                let place = self.place(way)?;
+                self.accounts[place].compare(datagram);
+                self.message(way, &frame.into(), time)
+            }
+            Err(Refusal::SERVICE) => self.tunnelled(datagram, time),
             Err(refusal) => {
                 self.aside.counts.refuse(refusal);
                 Ok(())
@@ -93,20 +98,15 @@ impl Ledger {
         }
     }
 
-    fn tunnelled(
-        &mut self,
-        interface: Interface,
-        datagram: &Datagram<'_>,
-        time: Option<Moment>,
-    ) -> Result<(), Crowded> {
+    fn tunnelled(&mut self, datagram: &Datagram<'_>, time: Option<Moment>) -> Result<(), Crowded> {
         match tunnelling::read_request(datagram.octets) {
             Ok(request) => {
-                let way = Way::tunnelling(interface, datagram, request.channel);
+                let way = Way::tunnelling(datagram, request.channel);
                 let message = request.frame.into();
                 self.request(way, request.channel, datagram.octets, &message, time)?;
             }
             Err(Refusal::SERVICE) => {
-                self.other_service(datagram.octets, |way| way.is_between(interface, datagram));
+                self.other_service(datagram.octets, |way| way.is_between(datagram));
             }
             Err(refusal) => self.aside.counts.refuse(refusal),
         }

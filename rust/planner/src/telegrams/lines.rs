@@ -56,6 +56,9 @@ pub fn read(text: &str, place: Offset) -> Result<Option<Line>, Unreadable> {
 /// The time that a line begins with, and the rest.
 fn timed(text: &str, place: Offset) -> Result<(Option<Moment>, &str), Unreadable> {
     let (word, rest) = first_word(text);
+    if !word.starts_with(|first: char| first.is_ascii_digit()) {
+        return Ok((None, text));
+    }
     let (time, rest) = match word.split_once('T') {
         Some((date, time)) => (Moment::read(date, time, place), rest),
         None if word.contains('.') => (Moment::read_seconds(word), rest),

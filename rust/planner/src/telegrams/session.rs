@@ -69,7 +69,7 @@ impl Session {
     /// Whether the table delivers a request, or acknowledges it again.
     fn receive(&mut self, request: &[u8]) -> Result<bool, Refusal> {
         let mut copy = request.to_vec();
-        if let [channel, counter] = &mut copy[CHANNEL_PLACE..=COUNTER_PLACE] {
+        if let Some([channel, counter]) = copy.get_mut(CHANNEL_PLACE..=COUNTER_PLACE) {
             *channel = CHANNEL;
             *counter = counter.wrapping_sub(self.opened_at);
         }

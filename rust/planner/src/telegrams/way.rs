@@ -31,17 +31,17 @@ pub enum Way {
 
 impl Way {
     /// The way of a routing datagram.
-    pub fn routing(interface: Interface, datagram: &Datagram<'_>) -> Way {
+    pub fn routing(datagram: &Datagram<'_>) -> Way {
         Way::Routing {
-            interface,
+            interface: datagram.interface,
             from: datagram.from.ip(),
         }
     }
 
     /// The way of a tunnelling request.
-    pub fn tunnelling(interface: Interface, datagram: &Datagram<'_>, channel: u8) -> Way {
+    pub fn tunnelling(datagram: &Datagram<'_>, channel: u8) -> Way {
         Way::Tunnelling {
-            interface,
+            interface: datagram.interface,
             from: datagram.from,
             to: datagram.to,
             channel,
@@ -50,17 +50,17 @@ impl Way {
 
     /// Whether a session lies between a datagram's addresses, in either direction. The ports may be
     /// others: a session is opened between control ends, and its requests go between data ends.
-    pub fn is_between(&self, interface: Interface, datagram: &Datagram<'_>) -> bool {
+    pub fn is_between(&self, datagram: &Datagram<'_>) -> bool {
         let ends = (datagram.from.ip(), datagram.to.ip());
         match self {
             Way::Tunnelling {
-                interface: own,
+                interface,
                 from,
                 to,
                 ..
             } => {
-                let own_ends = (from.ip(), to.ip());
-                *own == interface && (own_ends == ends || own_ends == (ends.1, ends.0))
+                let own = (from.ip(), to.ip());
+                *interface == datagram.interface && (own == ends || own == (ends.1, ends.0))
             }
             _ => false,
         }
@@ -84,12 +84,16 @@ impl fmt::Display for Way {
                 from, to, channel, ..
             } => write!(f, "tunnelling from {from} to {to}, channel {channel}")?,
         }
-        match self.interface() {
-            None => Ok(()),
-            Some(Interface { section: 0, number }) => write!(f, ", interface {number}"),
-            Some(Interface { section, number }) => {
-                write!(f, ", interface {number} of section {section}")
-            }
+        let Some(interface) = self.interface() else {
+            return Ok(());
+        };
+        write!(f, ", interface {}", interface.number)?;
+        if let Some(index) = interface.index {
+            write!(f, " ({index} of the system)")?;
+        }
+        match interface.section {
+            0 => Ok(()),
+            section => write!(f, " of section {section}"),
         }
     }
 }

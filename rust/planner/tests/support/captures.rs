@@ -21,8 +21,14 @@ pub fn udp(from: u16, to: u16, octets: &[u8]) -> Vec<u8> {
 pub fn ipv4(from: End, to: End, protocol: u8, fragment: u16, octets: &[u8]) -> Vec<u8> {
     let [t1, t0] = (20 + octets.len() as u16).to_be_bytes();
     let [f1, f0] = fragment.to_be_bytes();
-    let head = [0x45, 0, t1, t0, 0, 1, f1, f0, 16, protocol, 0, 0];
+    let head = [0x45, 0, t1, t0, 0, 0, f1, f0, 16, protocol, 0, 0];
     [&head[..], &from.0, &to.0, octets].concat()
+}
+
+/// The same packet with a number of its sender's.
+pub fn numbered(mut packet: Vec<u8>, number: u16) -> Vec<u8> {
+    packet[4..6].copy_from_slice(&number.to_be_bytes());
+    packet
 }
 
 /// An IPv4 packet with a UDP datagram.

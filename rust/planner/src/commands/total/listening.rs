@@ -6,6 +6,7 @@ use crate::arguments::fault;
 use crate::capture::{datagram, Broken, Capture, Form, Packet, Source};
 use crate::commands::Streams;
 use crate::fault::Fault;
+use crate::hex::spaced;
 use crate::telegrams::{lines, Crowded, Ledger};
 use std::fs::File;
 use std::io::{self, BufRead, BufReader, Cursor, Read};
@@ -85,11 +86,7 @@ impl<'a> Listener<'a> {
             return Ok(Err(fault(&name, EXPECTED, &error.to_string())));
         }
         let form = Form::of(&first);
-        let found = match form {
-            Form::Compressed(by) => format!("a file that {by} has compressed"),
-            _ => "an empty file".into(),
-        };
-        if matches!(form, Form::Compressed(_)) || first.is_empty() {
+        if let Some(found) = stranger(form, &first) {
             return Ok(Err(fault(&name, EXPECTED, &found)));
         }
         let is_capture = form != Form::Other;
@@ -137,9 +134,7 @@ impl<'a> Listener<'a> {
 
     fn packet(&mut self, packet: &Packet<'_>) -> Result<(), Crowded> {
         match datagram(packet, self.asked.port()) {
-            Ok(datagram) => self
-                .ledger
-                .datagram(packet.interface, &datagram, packet.time),
+            Ok(datagram) => self.ledger.datagram(&datagram, packet.time),
             Err(unread) => {
                 self.ledger.aside.unread(unread);
                 Ok(())
@@ -190,6 +185,21 @@ impl<'a> Listener<'a> {
         };
         let heard = self.ledger.line(&line.octets, self.asked.kind, line.time);
         heard.map_err(|Crowded| (CROWDED, "another".into()))
+    }
+}
+
+/// What a file is that is neither a capture nor a text.
+fn stranger(form: Form, first: &[u8]) -> Option<String> {
+    const MARK: &[u8] = "\u{feff}".as_bytes();
+    let is_blank = |octet: &u8| [b'\t', b'\n', b'\r', b' '].contains(octet);
+    let is_text = |octet: &u8| octet.is_ascii_graphic() || is_blank(octet);
+    match form {
+        Form::Compressed(by) => Some(format!("a file that {by} has compressed")),
+        Form::Other if first.is_empty() => Some("an empty file".into()),
+        Form::Other if !first.starts_with(MARK) && !first.iter().all(is_text) => {
+            Some(format!("a file that begins with {}", spaced(first)))
+        }
+        _ => None,
     }
 }
 

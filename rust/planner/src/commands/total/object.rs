@@ -85,6 +85,7 @@ fn numbers(counts: &Counts, place: Offset) -> Members {
         ("requests_and_confirmations", counts.not_indications.into()),
         ("sent_again", counts.sent_again.into()),
         ("gaps", counts.gaps.into()),
+        ("captured_twice", counts.twins.into()),
         ("refused", counts.refusals().into()),
         ("refusals", Json::List(refusals.collect())),
     ]
@@ -101,6 +102,7 @@ fn unread(answer: &Answer<'_>) -> Members {
         ("fragmented", aside.fragments.into()),
         ("other_links", aside.other_links.into()),
         ("other_packets", aside.other_packets.into()),
+        ("on_all_interfaces", aside.blurred.into()),
     ]
 }
 
@@ -139,6 +141,8 @@ fn described(way: &Way) -> Members {
     if let Some(interface) = way.interface() {
         members.push(("section", u64::from(interface.section).into()));
         members.push(("interface", u64::from(interface.number).into()));
+        let index = interface.index.map(u64::from);
+        members.push(("system_interface", index.map_or(Json::Null, Json::from)));
     }
     members
 }

@@ -110,6 +110,7 @@ fn count_rows(answer: &Answer<'_>, counts: &Counts) -> Vec<String> {
     ));
     rows.extend(some("sent again", counts.sent_again, ""));
     rows.extend(some("gaps", counts.gaps, gaps));
+    rows.extend(some("captured twice", counts.twins, "each time counted"));
     rows
 }
 
