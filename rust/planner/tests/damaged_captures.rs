@@ -3,6 +3,8 @@
 #[allow(dead_code)]
 #[path = "support/captures.rs"]
 mod captures;
+#[path = "support/emulated.rs"]
+mod emulated;
 #[allow(dead_code)]
 #[path = "support/telegrams.rs"]
 mod telegrams;
@@ -11,6 +13,8 @@ mod telegrams;
 mod totals;
 
 use captures::*;
+use emulated::number_of_inputs;
+use inputs::{seed, Generator};
 use telegrams::{increment, line};
 use totals::{total, Ended};
 
@@ -53,19 +57,21 @@ fn joined(parts: &[Part]) -> Vec<u8> {
         .collect()
 }
 
-/// A run that ends sensibly: an answer, or an answer up to a place that is told.
+/// A run that ends sensibly: an answer, or an answer up to a place that is told. A capture of all
+/// interfaces, or with packets twice, which damage may make of it, draws a note.
 fn assert_sensible(ended: &Ended, context: &str) {
-    match ended.status {
-        0 => assert_eq!(ended.errors, "", "{context}"),
-        1 => assert!(ended.errors.contains("--way"), "{context}: {ended:?}"),
-        2 => {
-            let told = ended.errors.lines().count() == 1
-                && ended.errors.contains(": expected ")
-                && ended.errors.contains(", found ");
-            assert!(told, "{context}: {}", ended.errors);
-        }
-        other => panic!("{context}: status {other}"),
-    }
+    let mut told: Vec<&str> = ended.errors.lines().collect();
+    told.retain(|row| !row.starts_with("klumdray: note: "));
+    let no_sum = |row: &str| row.contains("there is no sum") && row.ends_with("by --way");
+    let place = |row: &str| row.contains(": expected ") && row.contains(", found ");
+    let is_told = match (ended.status, &told[..]) {
+        (0, []) => true,
+        (1, [row]) => no_sum(row),
+        (2, [row]) => place(row),
+        (2, [row, other]) => no_sum(row) && place(other),
+        _ => false,
+    };
+    assert!(is_told, "{context}: {ended:?}");
 }
 
 #[test]
@@ -136,6 +142,47 @@ fn no_damaged_octet_makes_it_fail() {
                 assert_sensible(&ended, &format!("{new:02X}h at {place}"));
             }
         }
+    }
+}
+
+/// Octets changed, lost, put in or doubled, in one place or several.
+fn damaged(generator: &mut Generator, file: &[u8]) -> Vec<u8> {
+    let mut file = file.to_vec();
+    for _ in 0..1 + generator.below(4) {
+        let place = generator.below(file.len());
+        let end = (place + 1 + generator.below(24)).min(file.len());
+        match generator.below(6) {
+            0 => file.truncate(place + 1),
+            1 => {
+                file.drain(place..end);
+            }
+            2 => {
+                let more = generator.below(24);
+                let octets = generator.octets(more);
+                file.splice(place..place, octets);
+            }
+            3 => {
+                let part = file[place..end].to_vec();
+                file.splice(place..place, part);
+            }
+            _ => file[place] ^= generator.damage(),
+        }
+        if file.is_empty() {
+            file.push(0);
+        }
+    }
+    file
+}
+
+#[test]
+fn no_damage_makes_it_fail() {
+    let mut generator = Generator::new(seed());
+    let files: Vec<Vec<u8>> = files().iter().map(|parts| joined(parts)).collect();
+    for _ in 0..number_of_inputs(50_000, 5_000) {
+        let file = &files[generator.below(files.len())];
+        let file = damaged(&mut generator, file);
+        let ended = total(&["--json"], &file);
+        assert_sensible(&ended, &format!("{file:02X?}"));
     }
 }
 

@@ -31,8 +31,8 @@ pub struct Counts {
     pub gaps: u64,
     /// Routing datagrams whose packet stands in the capture twice.
     pub twins: u64,
-    /// Refusals by number.
-    pub refused: BTreeMap<u8, u64>,
+    /// Refusals.
+    pub refused: BTreeMap<Refusal, u64>,
 }
 
 /// The sum of a month.
@@ -71,7 +71,7 @@ impl MonthSum {
 impl Counts {
     /// Counts a refusal.
     pub fn refuse(&mut self, refusal: Refusal) {
-        *self.refused.entry(refusal.number()).or_default() += 1;
+        *self.refused.entry(refusal).or_default() += 1;
     }
 
     /// Adds the numbers of another way.
@@ -85,8 +85,8 @@ impl Counts {
         self.sent_again += other.sent_again;
         self.gaps += other.gaps;
         self.twins += other.twins;
-        for (number, count) in &other.refused {
-            *self.refused.entry(*number).or_default() += count;
+        for (refusal, count) in &other.refused {
+            *self.refused.entry(*refusal).or_default() += count;
         }
         self.times = match (self.times, other.times) {
             (Some((first, last)), Some((begun, ended))) => {

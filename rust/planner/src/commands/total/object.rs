@@ -7,7 +7,6 @@ use crate::calendar::Offset;
 use crate::json::Json;
 use crate::litres::plain;
 use crate::telegrams::{Account, Counts, Way};
-use klumdray::Refusal;
 
 type Members = Vec<(&'static str, Json)>;
 
@@ -66,12 +65,11 @@ fn numbers(counts: &Counts, place: Offset) -> Members {
         Some(times) => times.map(|time| time.exact(place).into()),
         None => [Json::Null, Json::Null],
     };
-    let refusals = counts.refused.iter().map(|(number, count)| {
-        let words = Refusal::from_number(*number).map_or("", Refusal::words);
+    let refusals = counts.refused.iter().map(|(refusal, count)| {
         Json::Object(vec![
-            ("number", (*number).into()),
+            ("number", refusal.number().into()),
             ("count", (*count).into()),
-            ("words", words.into()),
+            ("words", refusal.words().into()),
         ])
     });
     vec![

@@ -5,7 +5,6 @@ use super::{Answer, Outcome};
 use crate::address::Group;
 use crate::litres::{shown, thousands};
 use crate::telegrams::{Account, Counts};
-use klumdray::Refusal;
 
 /// What stands before the litres and before the telegrams of a month.
 const MONTH_HEAD: [&str; 3] = ["month", "litres", "telegrams"];
@@ -145,9 +144,9 @@ fn refused_rows(answer: &Answer<'_>) -> Vec<String> {
     let untold = answer.ledger().aside.untold;
     let sum = thousands(answer.counts.refusals() + untold);
     let mut cells: Vec<(String, String, &str)> = Vec::new();
-    for (number, count) in &answer.counts.refused {
-        let words = Refusal::from_number(*number).map_or("", Refusal::words);
-        cells.push((number.to_string(), thousands(*count), words));
+    for (refusal, count) in &answer.counts.refused {
+        let number = refusal.number().to_string();
+        cells.push((number, thousands(*count), refusal.words()));
     }
     if untold > 0 {
         cells.push(("-".into(), thousands(untold), "no kind of frame"));
