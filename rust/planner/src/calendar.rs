@@ -1,6 +1,7 @@
 //! Moments and days: seconds since 1970 as a capture has them, dates as people write them.
 
 use std::fmt;
+use std::time::Duration;
 
 const MINUTE: i64 = 60;
 const HOUR: i64 = 60 * MINUTE;
@@ -64,6 +65,20 @@ impl Moment {
         let seconds = i64::try_from(units.checked_div(each_second)?).ok()?;
         let rest = units % each_second * u128::from(BILLION) / each_second;
         Moment::new(seconds.checked_add(late)?, rest.try_into().ok()?)
+    }
+
+    /// How far another moment lies from this one, before it or behind it.
+    ///
+    /// ```
+    /// use planner::calendar::Moment;
+    /// use std::time::Duration;
+    /// let [first, second] = [(5, 900_000_000), (6, 100_000_000)].map(|(s, n)| Moment::new(s, n));
+    /// let apart = first.unwrap().apart(second.unwrap());
+    /// assert_eq!(apart, Duration::from_millis(200));
+    /// ```
+    pub fn apart(self, other: Moment) -> Duration {
+        let since = |moment: Moment| Duration::new(moment.seconds as u64, moment.nanoseconds);
+        since(self).abs_diff(since(other))
     }
 
     /// Reads seconds since 1970 with a point, as `1731771635.250`; digits behind the ninth are left

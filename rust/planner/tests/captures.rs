@@ -131,7 +131,10 @@ fn reads_internet_protocol_with_options_and_version_6() {
     let longer = [&extensions[..], &[0; 8]].concat();
     assert_counted(&total(&[], &version_6(0, &longer)), "IPv6 with options");
     let ended = total(&[], &version_6(44, &[17, 0, 0, 1, 0, 0, 0, 9]));
-    assert_eq!(ended.row("fragmented, not read"), Some("2"));
+    assert_eq!(
+        ended.row("fragmented, not read"),
+        Some("2, an increment may be among them")
+    );
     let ended = total(&[], &version_6(44, &[17, 0, 0, 9, 0, 0, 0, 9]));
     assert_eq!(ended.row("other packets"), Some("2"));
     assert_counted(
@@ -158,8 +161,14 @@ fn tells_what_it_does_not_read() {
     ];
     let ended = total(&[], &pcap(Order::Low, false, 101, &packets));
     assert_eq!(ended.row("total"), Some("21.00 litres"));
-    assert_eq!(ended.row("fragmented, not read"), Some("1"));
-    assert_eq!(ended.row("cut short, not read"), Some("4"));
+    assert_eq!(
+        ended.row("fragmented, not read"),
+        Some("1, an increment may be among them")
+    );
+    assert_eq!(
+        ended.row("cut short, not read"),
+        Some("4, an increment may be among them")
+    );
     assert_eq!(ended.row("other packets"), Some("3"));
     assert_eq!(ended.row("refused"), Some("0"));
 }
@@ -286,7 +295,10 @@ fn reads_what_was_kept_of_a_simple_packet() {
     ];
     let ended = total(&[], &[head, blocks.concat()].concat());
     assert_eq!(ended.status, 0, "{ended:?}");
-    assert_eq!(ended.row("cut short, not read"), Some("2"));
+    assert_eq!(
+        ended.row("cut short, not read"),
+        Some("2, an increment may be among them")
+    );
 }
 
 #[test]
@@ -364,16 +376,14 @@ fn asks_of_a_capture_what_a_capture_has() {
 #[test]
 fn says_what_a_file_of_another_kind_begins_with() {
     for (file, begun) in [
-        (&b"snoop\0\0\0"[..], None),
-        (&[0xa1, 0xb2, 0xcd, 0x34, 0, 0], Some("A1 B2 CD 34")),
-        (&[0xd4, 0xc3], Some("D4 C3")),
-        (&[0xff, 0xfe, b'B', 0], Some("FF FE 42 00")),
+        (&b"snoop\0\0\0"[..], "73 6E 6F 6F 70 00 00 00"),
+        (&[0x34, 0xcd, 0xb2, 0xa1, 2, 0], "34 CD B2 A1 02 00"),
+        (&[0xd4, 0xc3], "D4 C3"),
+        (&[0xff, 0xfe, b'B', 0], "FF FE 42 00"),
     ] {
         let ended = total(&[], file);
-        assert_eq!(ended.status, 2);
-        if let Some(begun) = begun {
-            let said = format!("found a file that begins with {begun}\n");
-            assert!(ended.errors.ends_with(&said), "{}", ended.errors);
-        }
+        assert_eq!((ended.status, ended.output.as_str()), (2, ""));
+        let said = format!("found a file that begins with {begun}\n");
+        assert!(ended.errors.ends_with(&said), "{}", ended.errors);
     }
 }

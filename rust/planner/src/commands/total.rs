@@ -183,9 +183,8 @@ const NO_SUM: &str =
     "increments came by several ways, so there is no sum: a telegram may have come \
                       by more than one; choose by --way";
 const MIXED: &str = "the chosen ways overlap; a telegram that came by two of them is counted twice";
-const TWINS: &str =
-    "packets stand in the capture twice and are counted twice; take the second ones \
-                     out, as by editcap -d, and count again";
+const TWINS: &str = "packets seem to stand in the capture twice and are counted twice; take the \
+                     second ones out, as by editcap -w 0.001, and count again";
 const BLURRED: &str =
     "captured on all interfaces at once; a packet that crossed two of them stands in \
                        the capture twice and is counted twice";

@@ -7,6 +7,10 @@ use klumdray::leak::Total;
 use klumdray::station::{Station, Taken};
 use klumdray::Refusal;
 use std::collections::BTreeMap;
+use std::time::Duration;
+
+/// An increment's eleven octets take 15 ms on TP1, and the pause behind them 5 ms.
+const SOON: Duration = Duration::from_millis(10);
 
 /// How many telegrams were what.
 #[derive(Clone, Debug, Default, PartialEq, Eq)]
@@ -29,7 +33,7 @@ pub struct Counts {
     pub sent_again: u64,
     /// Places where tunnelling requests are missing.
     pub gaps: u64,
-    /// Routing datagrams whose packet stands in the capture twice.
+    /// Routing datagrams whose packet seems to stand in the capture twice.
     pub twins: u64,
     /// Refusals.
     pub refused: BTreeMap<Refusal, u64>,
@@ -43,6 +47,14 @@ pub struct MonthSum {
     pub counted: u64,
 }
 
+/// The routing datagram before.
+#[derive(Clone, Debug, Default)]
+struct Before {
+    number: u16,
+    time: Option<Moment>,
+    octets: Vec<u8>,
+}
+
 /// What was heard on a way, or on several that are taken for one.
 #[derive(Clone, Debug)]
 pub struct Account {
@@ -52,8 +64,7 @@ pub struct Account {
     /// The numbers.
     pub counts: Counts,
     months: BTreeMap<Option<Month>, MonthSum>,
-    /// Number and octets of the routing datagram before.
-    before: (u16, Vec<u8>),
+    before: Before,
     /// The place among the ways of the one that was counted last.
     latest: usize,
     /// Whether one of several ways was heard again after a later one: a telegram may have come by
@@ -121,7 +132,7 @@ impl Account {
             station: Station::new(question.group, question.start),
             counts: Counts::default(),
             months: BTreeMap::new(),
-            before: (0, Vec::new()),
+            before: Before::default(),
             latest: 0,
             is_mixed: false,
         }
@@ -137,16 +148,20 @@ impl Account {
         self.months.iter().map(|(month, sum)| (*month, sum))
     }
 
-    /// Looks whether a routing datagram is the very packet before once more. A sender numbers its
-    /// packets, so the same number and the same octets were captured twice; a sender that gives none
-    /// has 0.
-    pub fn compare(&mut self, datagram: &Datagram<'_>) {
+    /// Looks whether a routing datagram is the very packet before once more: the same octets, with
+    /// the same number of the sender's (which is 0 where it gives none) or sooner than a line could
+    /// carry another telegram.
+    pub fn compare(&mut self, datagram: &Datagram<'_>, time: Option<Moment>) {
         let number = datagram.identification;
-        let is_same = self.before.0 == number && self.before.1 == datagram.octets;
-        self.counts.twins += u64::from(is_same && number != 0);
-        self.before.0 = number;
-        self.before.1.clear();
-        self.before.1.extend_from_slice(datagram.octets);
+        let is_numbered = number != 0 && self.before.number == number;
+        let is_soon = |(before, now): (Moment, Moment)| before.apart(now) < SOON;
+        let is_same = is_numbered || self.before.time.zip(time).is_some_and(is_soon);
+        let is_twin = is_same && self.before.octets == datagram.octets;
+        self.counts.twins += u64::from(is_twin);
+        self.before.number = number;
+        self.before.time = time;
+        self.before.octets.clear();
+        self.before.octets.extend_from_slice(datagram.octets);
     }
 
     /// The station takes a TP1 frame; nothing is noted yet.

@@ -87,7 +87,7 @@ impl Ledger {
             Ok(frame) => {
                 let way = Way::routing(datagram);
                 let place = self.place(way)?;
-                self.accounts[place].compare(datagram);
+                self.accounts[place].compare(datagram, time);
                 self.message(way, &frame.into(), time)
             }
             Err(Refusal::SERVICE) => self.tunnelled(datagram, time),

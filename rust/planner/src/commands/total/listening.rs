@@ -13,6 +13,8 @@ use std::io::{self, BufRead, BufReader, Cursor, Read};
 
 /// As much as is read at once.
 const BUFFER: usize = 1 << 16;
+/// By so many octets a text is told from what is none.
+const FIRST: u64 = 16;
 /// No frame's line is as long; a file without lines is not held in memory.
 const LONGEST_LINE: usize = 1 << 16;
 
@@ -82,10 +84,10 @@ impl<'a> Listener<'a> {
     fn begin(mut self, input: &mut dyn BufRead) -> io::Result<Result<Heard, Fault>> {
         let name = self.asked.name();
         let mut first = Vec::new();
-        if let Err(error) = (&mut *input).take(4).read_to_end(&mut first) {
+        if let Err(error) = (&mut *input).take(FIRST).read_to_end(&mut first) {
             return Ok(Err(fault(&name, EXPECTED, &error.to_string())));
         }
-        let form = Form::of(&first);
+        let form = Form::of(&first[..first.len().min(4)]);
         if let Some(found) = stranger(form, &first) {
             return Ok(Err(fault(&name, EXPECTED, &found)));
         }
@@ -191,14 +193,13 @@ impl<'a> Listener<'a> {
 /// What a file is that is neither a capture nor a text.
 fn stranger(form: Form, first: &[u8]) -> Option<String> {
     const MARK: &[u8] = "\u{feff}".as_bytes();
-    let is_blank = |octet: &u8| [b'\t', b'\n', b'\r', b' '].contains(octet);
-    let is_text = |octet: &u8| octet.is_ascii_graphic() || is_blank(octet);
+    let is_odd = |octet: &u8| octet.is_ascii_control() && !octet.is_ascii_whitespace();
+    let begins_odd = first.first().is_some_and(|octet| !octet.is_ascii());
+    let is_text = !first.iter().any(is_odd) && (first.starts_with(MARK) || !begins_odd);
     match form {
         Form::Compressed(by) => Some(format!("a file that {by} has compressed")),
         Form::Other if first.is_empty() => Some("an empty file".into()),
-        Form::Other if !first.starts_with(MARK) && !first.iter().all(is_text) => {
-            Some(format!("a file that begins with {}", spaced(first)))
-        }
+        Form::Other if !is_text => Some(format!("a file that begins with {}", spaced(first))),
         _ => None,
     }
 }

@@ -163,11 +163,12 @@ fn refused_rows(answer: &Answer<'_>) -> Vec<String> {
 fn unread_rows(answer: &Answer<'_>) -> impl Iterator<Item = String> {
     let aside = &answer.ledger().aside;
     let lost = "routers tell of lost telegrams";
+    let missing = "an increment may be among them";
     let rows = [
         some("other services", aside.other_services, ""),
-        some(lost, aside.lost, "an increment may be among them"),
-        some("cut short, not read", aside.cut, ""),
-        some("fragmented, not read", aside.fragments, ""),
+        some(lost, aside.lost, missing),
+        some("cut short, not read", aside.cut, missing),
+        some("fragmented, not read", aside.fragments, missing),
         some("other link types, not read", aside.other_links, ""),
         some("other packets", aside.other_packets, ""),
     ];
