@@ -26,8 +26,8 @@ impl fmt::Display for Fault {
     }
 }
 
-/// How a command ends: 0, 1 for a refused site or frame or a sum that there is not, 2 for a fault in what was given, 3 where
-/// the tool itself is at fault.
+/// How a command ends: 0, 1 for a refused site or frame or where there is no sum, 2 for a fault in
+/// what was given, 3 where the tool itself is at fault.
 #[derive(Clone, Copy, Debug, PartialEq, Eq, PartialOrd, Ord)]
 pub enum Status {
     /// The answer is on standard output.

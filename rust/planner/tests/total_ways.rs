@@ -178,7 +178,7 @@ fn assert_session(requests: &[Vec<u8>], counted: &str, again: Option<&str>, gaps
     let number = ended.row("counted").and_then(|row| row.split(' ').next());
     assert_eq!(number, Some(counted), "{ended:?}");
     assert_eq!(ended.row("sent again"), again, "{ended:?}");
-    let gaps = gaps.map(|gaps| format!("{gaps}, an increment may be missing at each"));
+    let gaps = gaps.map(|gaps| format!("{gaps}, an increment may be missing or twice at each"));
     assert_eq!(ended.row("gaps"), gaps.as_deref(), "{ended:?}");
     assert_eq!(ended.status, 0, "{ended:?}");
 }
@@ -272,7 +272,7 @@ fn a_refused_request_leaves_a_gap() {
     assert_eq!(ended.row("counted").map(|row| &row[..1]), Some("2"));
     assert_eq!(
         ended.row("gaps"),
-        Some("1, an increment may be missing at each")
+        Some("1, an increment may be missing or twice at each")
     );
     assert_eq!(ended.row("refused"), Some("1"));
     assert!(ended.row("  19").is_some());

@@ -18,13 +18,14 @@ use std::io;
 pub const HELP: &str = "\
 klumdray total FILE --group GROUP [OPTION]...
 
-Adds up what a leak meter has reported: the exact litres, how many telegrams were counted, which were
-not, and from when to when.
+Adds up what a leak meter has reported: the exact litres, how many telegrams were counted, which
+were not, and from when to when.
 
   FILE               a capture, pcap or pcapng as Wireshark writes them, with KNXnet/IP routing or
-                     tunnelling; or a text with one frame a line in hex, TP1, cEMI or KNXnet/IP, with
-                     a time before it or without: 2026-11-16T15:40:35.123Z, 2026-11-16 15:40:35+01:00,
-                     1731771635.250; # begins a comment. - is standard input
+                     tunnelling; or a text with one frame a line in hex, TP1, cEMI or KNXnet/IP,
+                     with a time before it or without: 2026-11-16T15:40:35.123Z,
+                     2026-11-16 15:40:35+01:00 or 1731771635.250; # begins a comment.
+                     - is standard input
   --group GROUP      the meter's group address, as 2/2/52, 2/564, 4660 or 1234h
   --start LITRES     what the total begins with, as 8760.00 or -0.5. Without it: 0
   --by month         the sum of each month as well
@@ -38,7 +39,8 @@ not, and from when to when.
 
 Counted are indications to the group with a two-octet float (GroupValueWrite of DPT 9, hundredths of
 a litre). A repetition of the frame before, a tunnelling request sent again, a cEMI request (a wish)
-and a confirmation (an echo) are not, and are told. A refused frame is told by the refusal's number.
+and a confirmation (an echo) are not, and are told. Refused frames are told by the refusal's number.
+The times are those of the first and the last telegram that was counted.
 
 A way is one sender of routing datagrams, or one tunnelling session in one direction, on one
 interface of one section of the capture; a text is one way. A telegram that came by two ways would
@@ -99,13 +101,13 @@ impl<'a> Answer<'a> {
     fn of(asked: &'a Asked, heard: &'a Heard) -> Answer<'a> {
         let ledger = &heard.ledger;
         let result = outcome(ledger);
+        let accounts = match (&result, asked.question.chosen.is_empty()) {
+            (Outcome::Total(account), false) => std::slice::from_ref(*account),
+            _ => ledger.accounts(),
+        };
         let mut counts = ledger.aside.counts.clone();
-        match (&result, asked.question.chosen.is_empty()) {
-            (Outcome::Total(account), false) => counts.add(&account.counts),
-            _ => ledger
-                .accounts()
-                .iter()
-                .for_each(|account| counts.add(&account.counts)),
+        for account in accounts {
+            counts.add(&account.counts);
         }
         Answer {
             asked,
@@ -179,15 +181,13 @@ impl<'a> Answer<'a> {
     }
 }
 
-const NO_SUM: &str =
-    "increments came by several ways, so there is no sum: a telegram may have come \
-                      by more than one; choose by --way";
+const NO_SUM: &str = "increments came by several ways, so there is no sum: \
+    a telegram may have come by more than one; choose by --way";
 const MIXED: &str = "the chosen ways overlap; a telegram that came by two of them is counted twice";
-const TWINS: &str = "packets seem to stand in the capture twice and are counted twice; take the \
-                     second ones out, as by editcap -w 0.001, and count again";
-const BLURRED: &str =
-    "captured on all interfaces at once; a packet that crossed two of them stands in \
-                       the capture twice and is counted twice";
+const TWINS: &str = "packets seem to stand in the capture twice and are counted twice; \
+    take the second ones out, as by editcap -w 0.001, and count again";
+const BLURRED: &str = "captured on all interfaces at once; \
+    a packet that crossed two of them stands in the capture twice and is counted twice";
 
 fn outcome(ledger: &Ledger) -> Outcome<'_> {
     let chosen = &ledger.question.chosen;

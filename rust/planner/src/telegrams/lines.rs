@@ -32,7 +32,7 @@ const FRAME: &str = "a frame in hex behind the time";
 /// use planner::calendar::Offset;
 /// use planner::telegrams::lines::read;
 /// let line = |text| read(text, Offset::UTC).unwrap().unwrap();
-/// let with_time = line("2026-11-16 15:40:35 BC 00  # a date and a time, though they look like hex");
+/// let with_time = line("2026-11-16 15:40:35 BC 00  # a date and a time, not hex");
 /// assert_eq!(with_time.octets, [0xbc, 0x00]);
 /// assert_eq!(with_time.time, line("2026-11-16T16:40:35+01:00 bc00").time);
 /// assert_eq!(with_time.time, line("1794843635.0 BC-00").time);

@@ -101,7 +101,7 @@ fn count_rows(answer: &Answer<'_>, counts: &Counts) -> Vec<String> {
         format!("no increment {}", thousands(counts.no_increment)),
         format!("other groups {}", thousands(counts.other_groups)),
     ];
-    let gaps = "an increment may be missing at each";
+    let gaps = "an increment may be missing or twice at each";
     rows.extend(some(
         "requests and confirmations",
         counts.not_indications,
