@@ -174,6 +174,33 @@ fn tells_what_it_does_not_read() {
 }
 
 #[test]
+fn a_datagram_is_as_long_as_both_heads_say() {
+    let [first, second] = two().map(|one| packet(ROUTER, MULTICAST, &one.routing()));
+    // Octets behind the datagram that the IP packet has and the datagram has not.
+    let longer = |packet: &[u8]| {
+        let mut longer = [packet, &[0; 3]].concat();
+        longer[3] += 3;
+        longer
+    };
+    let packets = [&first, &second].map(|packet| ethernet(&longer(packet)));
+    assert_counted(
+        &total(&[], &pcap(Order::Low, false, ETHERNET, &packets)),
+        "longer",
+    );
+    // A datagram that would reach into what the link has filled up.
+    let reaching = |packet: &[u8], length: u8| {
+        let mut reaching = packet.to_vec();
+        reaching[25] = length;
+        [ethernet(&reaching), vec![0; 9]].concat()
+    };
+    let packets = [28, 29, 7, 0].map(|length| reaching(&first, length));
+    let ended = total(&[], &pcap(Order::Low, false, ETHERNET, &packets));
+    let cut = Some("4, an increment may be among them");
+    assert_eq!(ended.row("cut short, not read"), cut, "{ended:?}");
+    assert_eq!(ended.row("refused"), Some("0"));
+}
+
+#[test]
 fn looks_at_another_port_where_it_is_told_to() {
     let other = End([192, 168, 1, 10], 3672);
     let packets = two().map(|one| ethernet(&packet(other, End(MULTICAST.0, 3672), &one.routing())));
@@ -316,6 +343,28 @@ fn reads_sections_in_both_orders_one_behind_the_other() {
         .output
         .contains("way 2: routing from 192.168.1.10, interface 0 of section 1\n"));
     assert_counted(&total(&["--way", "1,2"], &file), "as one");
+}
+
+#[test]
+fn a_section_has_interfaces_of_its_own() {
+    let order = Order::Low;
+    let [first, second] = two().map(|one| routed(ROUTER, &one.routing()));
+    let file = [
+        pcapng(order, &[], &[enhanced(order, 0, 1, &first)]),
+        section(order),
+        enhanced(order, 0, 2, &second),
+    ];
+    let ended = total(&[], &file.concat());
+    assert_eq!(
+        (ended.status, ended.row("total")),
+        (2, Some("21.00 litres"))
+    );
+    let place = file[0].len() + file[1].len() + 8;
+    let said = format!(
+        "klumdray: standard input: octet {place}, packet 2: expected an interface that was \
+         described before, found number 0 of 0\n"
+    );
+    assert_eq!(ended.errors, said);
 }
 
 #[test]

@@ -232,6 +232,9 @@ fn a_session_that_is_opened_anew_begins_at_any_counter() {
     // A session is opened between control ends, whose ports may be others.
     let control = packet(ROUTER, End(LAPTOP.0, 50_124), &connect_response(9, 0));
     assert_session(&[sent(0), control, sent(0)], "2", None, None);
+    // The laptop's own requests begin anew, too.
+    let own = |counter| packet(LAPTOP, ROUTER, &one.tunnelling(9, counter));
+    assert_session(&[own(0), opened(9, 0), own(0)], "2", None, None);
 }
 
 #[test]
