@@ -28,6 +28,15 @@ pub(crate) fn rest(list: &[u8]) -> &[u8] {
     &list[behind..]
 }
 
+// What stands from an index on; nothing past the end.
+pub(crate) fn from(list: &[u8], at: usize) -> &[u8] {
+    if at < list.len() {
+        &list[at..]
+    } else {
+        &list[..0]
+    }
+}
+
 // The first octets, or all where there are fewer.
 pub(crate) fn front(octets: &[u8], size: usize) -> &[u8] {
     if size < octets.len() {

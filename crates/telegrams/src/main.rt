@@ -2,9 +2,12 @@
 //
 // It reads a list of rows (tools/make-telegrams makes it). A row is a list again: the name, the
 // format's letter, and the octets; for a step the setting, the groups, and each frame received; for
-// a tunnel the open channels, and each call: its letter, and behind it what the call is given.
+// a tunnel the open channels, and each call: its letter, and behind it what the call is given; for a
+// station its group, and each frame received.
+mod floats;
 mod lists;
 mod reads;
+mod stations;
 mod steps;
 mod text;
 mod tunnels;
@@ -22,8 +25,11 @@ fn run_row(row: &[u8]) {
         b'r' => reads::run_routing(given),
         b'q' => reads::run_request(given),
         b'a' => reads::run_acknowledgement(given),
+        b'f' => floats::run_float(given),
+        b'h' => floats::run_hundredths(given),
         b's' => steps::run_steps(given, lists::rest(from_octets)),
         b'u' => tunnels::run_tunnel(given, lists::rest(from_octets)),
+        b'i' => stations::run_station(given, lists::rest(from_octets)),
         _ => {}
     }
     io::write_all(1, b"\n");

@@ -15,7 +15,7 @@ fn put_octet(octet: u8) {
     io::write_all(1, &text);
 }
 
-fn put_word(number: u16) {
+pub(crate) fn put_word(number: u16) {
     put_octet(octets::high_octet(number));
     put_octet(octets::low_octet(number));
 }
@@ -36,6 +36,24 @@ pub(crate) fn put_octets(list: &[u8]) {
 pub(crate) fn put_number(word: &[u8], number: u8) {
     io::write_all(1, word);
     io::print_decimal(1, number as u64);
+}
+
+// How far a number is from zero; below it from -1 on, so that the smallest number has a size too.
+fn size_of(number: i64) -> u64 {
+    if number < 0 {
+        let below = (-1 - number) as u64;
+        below + 1
+    } else {
+        number as u64
+    }
+}
+
+pub(crate) fn put_signed(word: &[u8], number: i64) {
+    io::write_all(1, word);
+    if number < 0 {
+        io::write_all(1, b"-");
+    }
+    io::print_decimal(1, size_of(number));
 }
 
 // One of two words.

@@ -78,6 +78,23 @@ fn refused(number: u8) -> String {
     format!("refused {number}")
 }
 
+fn value(hundredths: i32) -> String {
+    format!("hundredths {hundredths}")
+}
+
+fn coded(code: u16) -> String {
+    format!("code {code:04X}")
+}
+
+/// What a frame is to a station: a word, or its refusal; and the total then.
+fn taken(what: Result<String, u8>, total: i64) -> String {
+    format!("{} total {total}", what.unwrap_or_else(refused))
+}
+
+fn counted(code: u16) -> String {
+    format!("counted {code:04X}")
+}
+
 /// What comes of each call, one after the other.
 fn each(calls: &[Call], mut answer: impl FnMut(&Call) -> Result<String, u8>) -> String {
     let texts: Vec<String> = calls
@@ -91,8 +108,9 @@ mod by_reference {
     use super::*;
     use reference::cemi::Code;
     use reference::coupler::{self, Acknowledgement, Coupler};
+    use reference::station::{Station, Taken};
     use reference::tunnelling::{self, Table};
-    use reference::{cemi, routing, tp1, Format, Given};
+    use reference::{cemi, leak, routing, tp1, Format, Given};
 
     fn meaning(meaning: &reference::Meaning) -> Meaning {
         Meaning {
@@ -177,6 +195,28 @@ mod by_reference {
         each(calls, |call| called(&mut table, call))
     }
 
+    fn word(taken: Taken) -> String {
+        match taken {
+            Taken::Counted(code) => counted(code),
+            Taken::Repetition => "repetition".to_string(),
+            Taken::AnotherGroup => "other group".to_string(),
+            Taken::NoIncrement => "no increment".to_string(),
+        }
+    }
+
+    pub fn heard(station: &mut Station, octets: &[u8]) -> String {
+        let what = station.take(octets).map(word);
+        taken(what, station.total)
+    }
+
+    fn station(group: u16, frames: &[Vec<u8>]) -> String {
+        let (mut station, mut text) = (Station::new(group, 0), String::new());
+        for octets in frames {
+            text = heard(&mut station, octets);
+        }
+        text
+    }
+
     pub fn answer(question: &Question) -> String {
         let answer = match question {
             Question::Tp1(octets) => {
@@ -191,6 +231,9 @@ mod by_reference {
                 .map(|answer| acknowledged(answer.channel, answer.counter, answer.status)),
             Question::Step(setting, frames) => Ok(step(setting, frames)),
             Question::Tunnel(open, calls) => Ok(tunnel(open, calls)),
+            Question::Float(octets) => leak::read(octets).map(value),
+            Question::Hundredths(hundredths) => leak::write(*hundredths).map(coded),
+            Question::Station(group, frames) => Ok(station(*group, frames)),
         };
         answer.unwrap_or_else(refused)
     }
@@ -200,8 +243,9 @@ mod by_bindings {
     use super::*;
     use klumdray::cemi::Code;
     use klumdray::coupler::Acknowledgement;
+    use klumdray::station::{Station, Taken};
     use klumdray::tunnelling::{self, Channels};
-    use klumdray::{cemi, coupler, routing, tp1};
+    use klumdray::{cemi, coupler, leak, routing, tp1};
 
     fn message(frame: cemi::Frame<'_>) -> String {
         let kind = match frame.code {
@@ -268,6 +312,24 @@ mod by_bindings {
         })
     }
 
+    fn word(taken: Taken) -> String {
+        match taken {
+            Taken::Counted(code) => counted(code),
+            Taken::Repetition => "repetition".to_string(),
+            Taken::AnotherGroup => "other group".to_string(),
+            Taken::NoIncrement => "no increment".to_string(),
+        }
+    }
+
+    fn station(group: u16, frames: &[Vec<u8>]) -> String {
+        let (mut station, mut text) = (Station::new(group, 0), String::new());
+        for octets in frames {
+            let what = station.take(octets).map(word).map_err(Refusal::number);
+            text = taken(what, station.total());
+        }
+        text
+    }
+
     pub fn answer(question: &Question) -> String {
         let answer = match question {
             Question::Tp1(octets) => {
@@ -282,6 +344,9 @@ mod by_bindings {
                 .map(|answer| acknowledged(answer.channel, answer.counter, answer.status)),
             Question::Step(setting, frames) => Ok(step(setting, frames)),
             Question::Tunnel(open, calls) => Ok(tunnel(open, calls)),
+            Question::Float(octets) => leak::read(octets).map(value),
+            Question::Hundredths(hundredths) => leak::write(*hundredths).map(coded),
+            Question::Station(group, frames) => Ok(station(*group, frames)),
         };
         answer.unwrap_or_else(|refusal: Refusal| refused(refusal.number()))
     }
@@ -331,7 +396,7 @@ fn numbers(source: &str) -> String {
         _ => refused.join(", "),
     };
     format!(
-        "| {source} | {} | {} | {} | {} | {} | {} | {} | {} | {} | {refused} | {} | {} |",
+        "| {source} | {} | {} | {} | {} | {} | {} | {} | {} | {} | {} | {} | {} | {refused} | {} | {} |",
         rows.len(),
         count(&|row| matches!(row.question, Question::Tp1(_))),
         count(&|row| matches!(row.question, Question::Cemi(_))),
@@ -340,6 +405,9 @@ fn numbers(source: &str) -> String {
         count(&|row| matches!(row.question, Question::Acknowledgement(_))),
         count(&|row| matches!(row.question, Question::Step(..))),
         count(&|row| matches!(row.question, Question::Tunnel(..))),
+        count(&|row| matches!(row.question, Question::Float(_))),
+        count(&|row| matches!(row.question, Question::Hundredths(_))),
+        count(&|row| matches!(row.question, Question::Station(..))),
         count(&|row| row.number() == 0),
         count(&Row::is_misprint),
         count(&Row::is_other_format),
@@ -367,15 +435,18 @@ fn refused_rows_say_why() {
     }
 }
 
-/// The idle programs that document 01 names, as far as they answer rows.
+/// The idle programs that document 01 names, as far as they answer rows, and such programs for the
+/// requests of document 02.
 mod idle {
     use super::*;
+    use reference::station::Station;
     use std::slice;
 
     fn refuses_all(question: &Question) -> String {
         match question {
             Question::Step(..) => stepped(1, None, false, &[]),
             Question::Tunnel(_, calls) => each(calls, |_| Err(1)),
+            Question::Station(..) => taken(Err(1), 0),
             _ => refused(1),
         }
     }
@@ -392,8 +463,12 @@ mod idle {
             count: 3,
         };
         match question {
-            Question::Step(..) | Question::Tunnel(..) => by_reference::answer(question),
-            _ => words(&meaning, &p1),
+            Question::Tp1(_)
+            | Question::Cemi(_)
+            | Question::Routing(_)
+            | Question::Request(_)
+            | Question::Acknowledgement(_) => words(&meaning, &p1),
+            _ => by_reference::answer(question),
         }
     }
 
@@ -426,12 +501,55 @@ mod idle {
         }
     }
 
-    const PROGRAMS: [(&str, Answer); 5] = [
+    /// Every float is read with an exponent of 0.
+    fn reads_no_exponent(question: &Question) -> String {
+        match question {
+            Question::Float(octets) if octets.len() == 2 => {
+                by_reference::answer(&Question::Float(vec![octets[0] & 0x87, octets[1]]))
+            }
+            _ => by_reference::answer(question),
+        }
+    }
+
+    fn writes_zero(question: &Question) -> String {
+        match question {
+            Question::Hundredths(_) => coded(0),
+            _ => by_reference::answer(question),
+        }
+    }
+
+    fn adds_nothing(question: &Question) -> String {
+        let answer = by_reference::answer(question);
+        match (question, answer.split_once(" total ")) {
+            (Question::Station(..), Some((what, _))) => format!("{what} total 0"),
+            _ => answer,
+        }
+    }
+
+    /// Every frame meets a station that remembers none.
+    fn remembers_nothing(question: &Question) -> String {
+        let Question::Station(group, frames) = question else {
+            return by_reference::answer(question);
+        };
+        let (mut total, mut text) = (0, String::new());
+        for octets in frames {
+            let mut fresh = Station::new(*group, total);
+            text = by_reference::heard(&mut fresh, octets);
+            total = fresh.total;
+        }
+        text
+    }
+
+    const PROGRAMS: [(&str, Answer); 9] = [
         ("refuses all", refuses_all),
         ("one fixed frame", one_fixed_frame),
         ("forwards nothing", forwards_nothing),
         ("copies octets unchanged", copies_octets),
         ("raises nothing", raises_nothing),
+        ("reads no exponent", reads_no_exponent),
+        ("writes zero", writes_zero),
+        ("adds nothing", adds_nothing),
+        ("remembers nothing", remembers_nothing),
     ];
 
     #[test]

@@ -36,12 +36,18 @@ pub enum Question {
     Step(Setting, Vec<Vec<u8>>),
     /// The open channels, and calls one after the other; the row says what comes of each.
     Tunnel(Vec<u8>, Vec<Call>),
+    Float(Vec<u8>),
+    /// A number of hundredths that is to be written.
+    Hundredths(i64),
+    /// A station's group, and frames received one after the other; the row says what the last one
+    /// is, and the total then.
+    Station(u16, Vec<Vec<u8>>),
 }
 
 pub struct Row {
     pub name: String,
     pub question: Question,
-    /// What document 01, or R-1 of document 02, says of it.
+    /// What document 01, or a request of document 02, says of it.
     pub text: String,
     pub remark: String,
 }
@@ -60,8 +66,8 @@ impl Row {
         self.remark.starts_with("on purpose: ")
     }
 
-    /// The number by which it is refused, in a tunnel its last call, or 0. A step's other parts
-    /// stand behind it.
+    /// The number by which it is refused, in a tunnel its last call, or 0. A step's other parts and
+    /// a station's total stand behind it.
     pub fn number(&self) -> usize {
         let last = self.text.rsplit(" > ").next().unwrap_or_default();
         let mut words = last.split(' ');
@@ -100,9 +106,7 @@ fn question(format: &str, octets: &str) -> Question {
         "step" => {
             let mut parts = octets.split(" > ").map(pairs);
             let setting = setting(&parts.next().expect("a setting"));
-            let frames: Vec<Vec<u8>> = parts.collect();
-            assert!(!frames.is_empty(), "no frame: {octets}");
-            Question::Step(setting, frames)
+            Question::Step(setting, frames(parts))
         }
         "tunnel" => {
             let mut parts = octets.split(" > ");
@@ -111,8 +115,27 @@ fn question(format: &str, octets: &str) -> Question {
             assert!(!calls.is_empty(), "no call: {octets}");
             Question::Tunnel(open, calls)
         }
+        "float" => Question::Float(pairs(octets)),
+        "hundredths" => Question::Hundredths(i64::from_be_bytes(exactly(&pairs(octets)))),
+        "station" => {
+            let mut parts = octets.split(" > ").map(pairs);
+            let group = exactly(&parts.next().expect("a group"));
+            Question::Station(u16::from_be_bytes(group), frames(parts))
+        }
         _ => panic!("no such format: {format}"),
     }
+}
+
+fn frames(parts: impl Iterator<Item = Vec<u8>>) -> Vec<Vec<u8>> {
+    let frames: Vec<Vec<u8>> = parts.collect();
+    assert!(!frames.is_empty(), "no frame");
+    frames
+}
+
+fn exactly<const SIZE: usize>(octets: &[u8]) -> [u8; SIZE] {
+    octets
+        .try_into()
+        .unwrap_or_else(|_| panic!("not {SIZE} octets: {octets:02X?}"))
 }
 
 fn call(text: &str) -> Call {
