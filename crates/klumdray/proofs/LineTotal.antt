@@ -53,7 +53,7 @@ module _ (total memory : List ℕ) (group : ℕ) (s : List ℕ) (o : Octets s) (
       → totalIn total′ +ℤ sumOf rest ≡ totalIn total +ℤ sumOf (countedBy answer rest)
   taken-one {answer} {total′} w =
       let both : (t : Tally) → takenThrough total memory group s ≡ t → totalIn (totalTaken (t .total) (t .telegram) total) +ℤ sumOf rest ≡ totalIn total +ℤ sumOf (countedBy (telegramNumber (t .telegram)) rest)
-          → totalIn total′ +ℤ sumOf rest ≡ totalIn total +ℤ sumOf (countedBy answer rest) = λ t e x.
+      → totalIn total′ +ℤ sumOf rest ≡ totalIn total +ℤ sumOf (countedBy answer rest) = λ t e x.
       ap (λ (l : List ℕ). totalIn l +ℤ sumOf rest) (w .counted ∙ ap (λ (u : Tally). totalTaken (u .total) (u .telegram) total) e)
       ∙ x ∙ ap (λ (n : ℕ). totalIn total +ℤ sumOf (countedBy n rest)) (sym (w .answers ∙ ap (λ (u : Tally). telegramNumber (u .telegram)) e)) in
       let frame : List ℕ = recalled (rememberedIn memory) in
