@@ -27,7 +27,8 @@ add-result c =
 sub-result : tie.Need-sub-result
 sub-result c =
     let under = c .before in
-    minus-bounds (under .before .args .size) (under .exponent-under .result) (c .nearest .result) (under .before .pre) (rw add-one at (under .exponent-under .ensures)) (rw add-one at (c .nearest .ensures)) .1
+    let b = minus-bounds (under .before .args .size) (under .exponent-under .result) (c .nearest .result) (under .before .pre) (rw add-one at (under .exponent-under .ensures)) (rw add-one at (c .nearest .ensures)) in
+    b .1
 
 add-result-2 : tie.Need-add-result-2
 add-result-2 c =
