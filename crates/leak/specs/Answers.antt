@@ -24,7 +24,7 @@ abbrev pub codedNumbered : Coded → Numbered
 codedNumbered (Code code) = accepted (code ∷ [])
 codedNumbered (Unwritten r) = refused r
 
--- "otherwise no increment, and no refusal"
+-- otherwise no increment, and no refusal
 abbrev pub carriedNumbered : Carried → Numbered
 carriedNumbered (Float code) = accepted (code ∷ [])
 carriedNumbered Nothing = accepted []

@@ -1,5 +1,5 @@
--- What a telegram adds to the total: "Each increment is a KNX telegram" that writes a two-octet float to a group. Its payload is TPCI 00h
--- (data to a group), APCI 80h (GroupValueWrite, its value in the octets behind it), and the two octets. Anything else is no increment.
+-- What a telegram adds to the total. R-4 does not say which telegram carries an increment (docs/DECISIONS.md, H10): one that writes a two-octet
+-- float to a group. Its payload is TPCI 00h (data to a group), APCI 80h (GroupValueWrite, its value in the octets behind it), and the two octets.
 use Prim.Native.Nat.{ℕ}
 use mathlib.Core.Bool.{Bool, cond, _&&_}
 use mathlib.Core.List.{List}

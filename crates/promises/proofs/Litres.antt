@@ -121,7 +121,7 @@ written-near z e =
       off = written-chosen z r .nearest .near;
     }
 
--- "what a code stands for, written again, stands for the same value", by the same code or another
+-- what a code stands for, written again, stands for the same value, by the same code or another
 pub record WrittenAgain (z : ℤ) : Type 0 where
   pub code : ℕ
   pub written : codedNumbered (writeCode z) ≡ accepted (code ∷ [])
@@ -147,7 +147,7 @@ written-again c z h e =
     let n = eqb-false c 0x7FFF p in
     subst WrittenAgain (hundredths-one (sym (read-valid c n) ∙ v)) (again-of c h n))
 
--- "0 to 2,047 and -2,048 to -1 are exact"
+-- 0 to 2,047 and -2,048 to -1 are exact
 plain-code : (z : ℤ) → fitsM z ≡ true → (codeOf z 0 < 65536) × (codeOf z 0 ≡ 0x7FFF → ⊥)
 plain-code (pos a) f = let l : a ≤ 2047 = leb-true a 2047 f in (omega arith, λ e. omega arith)
 plain-code (negsuc a) f = (omega arith, λ e. omega arith)

@@ -46,7 +46,7 @@ use Rattle.klumdray.specs.Litres.{valueNumber, valueGiven, codedNumber, carried
 
 -- the float
 
--- "the hundredths, 32 bits in two's complement"; "14 if the code is above FFFFh, then 23"
+-- "the hundredths in two's complement"; a code above FFFFh is 14, then 23
 given-inside : (code : ℕ) → code < 65536 → valueGiven code ≡ readCode code
 unfolding valueGiven
 given-inside code h = rw (lt-ltb code 65536 h)
@@ -86,7 +86,7 @@ float-read-told s o = value-tells (readOctets s) (octets-small s o)
 pub float-write-told : (z : ℤ) → Tells 32 codedFrom (codedNumber (writeCode z)) (codedNumbered (writeCode z)) (λ r. writeCode z ≡ Unwritten r)
 float-write-told z = coded-tells (writeCode z) (write-small z)
 
--- the increment of a payload: "no increment, and no refusal"
+-- the increment of a payload, or none; nothing is refused
 carried-small : (p : List ℕ) → Octets p → (n : ℕ) → incrementIn p ≡ Float n → n < 65536
 unfolding incrementIn
 carried-small p o n e =
@@ -130,7 +130,7 @@ module _ (block : List ℕ) (code answer : ℕ) (block′ : List ℕ) (w : Added
   pub total-add-outside : isTotal block && ltb code 65536 ≡ false → answer ≡ 14
   total-add-outside wrong = w .answers ∙ ap addedNumber (adds-not wrong)
 
-  -- "A refused call has written nothing."
+  -- "A refused call leaves the total as it was."
   pub total-add-refused : (numberIn answer ≡ 0 → ⊥) → block′ ≡ block
   total-add-refused n = go (addedThrough block code) refl
     where
@@ -169,7 +169,7 @@ module _ (total memory : List ℕ) (group : ℕ) (s : List ℕ) (o : Octets s) (
       inner : Tally
       inner = takenBy (totalIn total) group (recalled (rememberedIn memory)) s
 
-  -- "bits 8 to 15 what the frame is, 16 to 31 the code": taken apart, the answer is the station's
+  -- "what the frame is", "the code that was added": taken apart, the answer is the station's
   pub take-told : Tells 32 telegramFrom answer (telegramNumbered (taken .telegram)) (λ r. taken .telegram ≡ Refused r)
   take-told = rw (w .answers) (telegram-tells (taken .telegram) small)
 
@@ -177,7 +177,7 @@ module _ (total memory : List ℕ) (group : ℕ) (s : List ℕ) (o : Octets s) (
   pub take-outside : isLent total memory group ≡ false → answer ≡ 14
   take-outside wrong = w .answers ∙ ap (λ (x : Tally). telegramNumber (x .telegram)) (inside-not total memory group s wrong)
 
-  -- "A refused call leaves both blocks as they were."
+  -- "A refused call leaves total and memory as they were."
   pub take-refused : (numberIn answer ≡ 0 → ⊥) → (total′ ≡ total) × (memory′ ≡ memory)
   take-refused n = go (taken .telegram) refl
     where
@@ -194,7 +194,7 @@ module _ (total memory : List ℕ) (group : ℕ) (s : List ℕ) (o : Octets s) (
         w .remembered ∙ ap (λ (t : Telegram). memoryTaken t memory s) e,
       )
 
-  -- "Every frame that is not refused becomes the remembered one."
+  -- "Every frame that is not refused is the one remembered"
   pub take-remembers : numberIn answer ≡ 0 → recalled (rememberedIn memory′) ≡ s
   take-remembers z = taken-remembered total memory group s o w (go (taken .telegram) refl)
     where

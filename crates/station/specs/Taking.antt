@@ -1,6 +1,6 @@
--- A station that listens to one TP1 line: what each frame there is to the total of one group. "Each increment is a KNX telegram"; "One increment
--- lost or counted twice, and an owner opens sound pipework": what is refused, goes to another group, is a repetition or writes no two-octet
--- float adds nothing, and everything else adds its value.
+-- A station that listens to one TP1 line: what each frame there is to the total of one group (docs/DECISIONS.md, H12 to H14). What is refused, goes
+-- to another group, is a repetition or writes no two-octet float adds nothing, and everything else adds its value: no increment is lost, and none
+-- counted twice.
 use Prim.Native.Nat.{ℕ}
 use mathlib.Core.Bool.{Bool, cond, _&&_}
 use mathlib.Core.List.{List}
