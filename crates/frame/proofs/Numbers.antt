@@ -73,6 +73,13 @@ row PastTotal = (refl, refl)
 pub number-listed : (r : Refusal) → (1 ≤ number r) × (number r ≤ lastNumber)
 number-listed r = let b = and-true _ _ (row r .0) in (leb-true 1 (number r) (b .0), leb-true (number r) lastNumber (b .1))
 
+-- 22 is no row's: what stands in its place has another number
+pub number-not-22 : (r : Refusal) → number r ≡ 22 → ⊥
+number-not-22 r e =
+    let there : r ≡ OtherCounter = sym (row r .1) ∙ ap numbered e in
+    let z : number r ≡ 21 = ap number there in
+    omega (arith, e, z)
+
 -- a refusal's number is not 0
 pub refused-number : (r : Refusal) → eqb (number r) 0 ≡ false
 refused-number r = ne-eqb (number r) 0 (λ e. omega (arith, number-listed r .0))

@@ -10,7 +10,7 @@ use lib.ListN.{length, drop}
 use Rattle.cemi.specs.Answers.{messageValues, cemiNumbered}
 use Rattle.cemi.specs.Reading.{body, messageIn, cemiTests, readCemi, payloadIn, informationIn}
 use Rattle.cemi.specs.declared.Codes.{Codes}
-use Rattle.frame.proofs.Numbers.{number-listed, number-some, number-apart}
+use Rattle.frame.proofs.Numbers.{number-listed, number-not-22, number-some, number-apart}
 use Rattle.frame.specs.Answers.{Numbered, accepted, refused, meaningValues, writtenNumbered, verdictNumbered}
 use Rattle.frame.specs.Order.{Test, firstOf, answerBy}
 use Rattle.frame.specs.declared.Verdict.the-variants.{Fine, Refuse}
@@ -44,9 +44,9 @@ use Rattle.tunnelling.specs.declared.AcknowledgementAnswer.the-variants.{Frame 
 use Rattle.tracer.specs.declared.Explanation.the-variants.{Refused as Unexplained}
 use Rattle.promises.proofs.Ends.{Ends, EndsNumbered, ends-by}
 
--- the numbers of refusals are 1 to the table's last, each stands for one, and 0 for none
-pub numbers-listed : (r : Refusal) → (1 ≤ number r) × (number r ≤ lastNumber)
-numbers-listed = number-listed
+-- the numbers of refusals are the table's, 1 to the last but for 22, each stands for one, and 0 for none
+pub numbers-listed : (r : Refusal) → (1 ≤ number r) × ((number r ≤ lastNumber) × (number r ≡ 22 → ⊥))
+numbers-listed r = (number-listed r .0, (number-listed r .1, number-not-22 r))
 
 pub numbers-apart : (q r : Refusal) → number q ≡ number r → q ≡ r
 numbers-apart = number-apart

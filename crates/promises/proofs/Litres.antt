@@ -1,16 +1,19 @@
 -- Document 02, R-4: "Litres that add up." Each sentence as a theorem of every answer that a call's contract allows, by its number and values.
 use Prim.Native.Nat.{ℕ, suc, _+_, _*_, _^_, _≤_, _<_}
-use mathlib.Core.Bool.{true, false}
+use mathlib.Core.Bool.{true, false, _&&_}
 use mathlib.Core.List.{List, [], _∷_}
 use mathlib.Core.Logic.{_↔_}
 use mathlib.Core.Path.{_≡_, refl, sym, ap, _∙_, subst}
 use native.Mathlib.Omega.{arith}
 use lib.Dec.{eqb}
 use lib.IntN.{ℤ, pos, negsuc, natAbs, subℕ, _+ℤ_, _-ℤ_, _*ℤ_}
+use lib.ListN.{length, getD}
 use borrow.Author.Tests.{eqb-true, eqb-false, leb-true}
-use Rattle.octets.proofs.Truth.{by-cases}
+use Rattle.octets.proofs.Truth.{by-cases, and-true}
+use Rattle.octets.proofs.Split.{firsts-last}
+use Rattle.octets.specs.Octets.{octetAt}
 use Rattle.octets.specs.Word.{wordAt}
-use Rattle.frame.specs.Answers.{accepted, refused}
+use Rattle.frame.specs.Answers.{Numbered, accepted, refused}
 use Rattle.frame.specs.Order.{answerBy}
 use Rattle.frame.specs.Refusals.{number}
 use Rattle.frame.specs.declared.Refusal.the-variants.{Invalid, PastTotal}
@@ -20,7 +23,8 @@ use Rattle.leak.proofs.Chosen.{code-valid, written-chosen, chosen-one, mantissa
 use Rattle.leak.proofs.Exactly.{value-by-bits, read-invalid, read-valid, write-within, write-beyond, add-invalid, add-past, add-within}
 use Rattle.leak.proofs.Series.{sum-is, total-after}
 use Rattle.leak.proofs.Written.{again, value-is}
-use Rattle.leak.specs.Answers.{signedValues, valueNumbered, codedNumbered, addedNumbered}
+use Rattle.leak.specs.Answers.{signedValues, valueNumbered, codedNumbered, carriedNumbered, addedNumbered}
+use Rattle.leak.specs.Increment.{isIncrement, incrementIn}
 use Rattle.leak.specs.Float.{exponentOf, hundredthsOf}
 use Rattle.leak.specs.Nearest.{Chosen}
 use Rattle.leak.specs.Reading.{codeTests, readCode, octetsTests, readOctets}
@@ -160,6 +164,32 @@ pub small-exact : (z : ℤ) → fitsM z ≡ true → WrittenAgain z
 small-exact z f =
     let p = plain-code z f in
     subst WrittenAgain (value-is z 0 f (omega arith) ∙ times-one z) (again-of (codeOf z 0) (p .0) (p .1))
+
+-- The increment of a telegram
+
+-- a payload carries one exactly if it is 00h, 80h and two octets, and these are its code, high octet first
+pub increment-exactly : (p : List ℕ) (code : ℕ) → carriedNumbered (incrementIn p) ≡ accepted (code ∷ [])
+    ↔ ((high : ℕ) × ((low : ℕ) × ((p ≡ 0x00 ∷ 0x80 ∷ high ∷ low ∷ []) × (code ≡ high * 256 + low))))
+unfolding incrementIn
+increment-exactly p code = (there, λ g. subst (λ (l : List ℕ). carriedNumbered (incrementIn l) ≡ accepted (code ∷ [])) (sym (g .1 .1 .0)) (ap (λ (n : ℕ). accepted (n ∷ [])) (sym (g .1 .1 .1))))
+  where
+    there : carriedNumbered (incrementIn p) ≡ accepted (code ∷ []) → (high : ℕ) × ((low : ℕ) × ((p ≡ 0x00 ∷ 0x80 ∷ high ∷ low ∷ []) × (code ≡ high * 256 + low)))
+    there e =
+        by-cases (isIncrement p)
+        (λ i.
+        let outer = and-true (eqb (octetAt p 0) 0x00 && eqb (octetAt p 1) 0x80) (eqb (length p) 4) i in
+        let inner = and-true (eqb (octetAt p 0) 0x00) (eqb (octetAt p 1) 0x80) (outer .0) in
+        let four : p ≡ octetAt p 0 ∷ octetAt p 1 ∷ octetAt p 2 ∷ octetAt p 3 ∷ [] = firsts-last 4 0 p (sym (eqb-true (length p) 4 (outer .1))) in
+        let first : octetAt p 0 ≡ 0x00 = eqb-true (octetAt p 0) 0x00 (inner .0) in
+        let second : octetAt p 1 ≡ 0x80 = eqb-true (octetAt p 1) 0x80 (inner .1) in
+        let said : accepted (wordAt p 2 ∷ []) ≡ accepted (code ∷ []) = rw i at e in (
+          octetAt p 2,
+          (octetAt p 3, (four ∙ (λ j. first j ∷ second j ∷ octetAt p 2 ∷ octetAt p 3 ∷ []), sym (ap (λ (n : Numbered). getD (n .values) 0 0) said))),
+        ))
+        (λ i.
+        let said : accepted [] ≡ accepted (code ∷ []) = rw i at e in
+        let z : _≡_ {A = ℕ} 0 1 = ap (λ (n : Numbered). length (n .values)) said ∙ omega arith in
+        absurd (omega arith))
 
 -- The total
 

@@ -22,7 +22,7 @@ use Rattle.coupler.specs.Memory.{recalled, sideOf}
 use Rattle.coupler.specs.Step.{Coupler, Heard, Did, outcomeBy, fromIp, nothing}
 use Rattle.coupler.specs.declared.Memory.{Memory}
 use Rattle.coupler.specs.declared.Outcome.{Outcome}
-use Rattle.frame.proofs.Numbers.{number-listed}
+use Rattle.frame.proofs.Numbers.{number-listed, number-not-22}
 use Rattle.frame.proofs.Order.{passed-iff}
 use Rattle.frame.specs.Answers.{Numbered, writtenNumbered}
 use Rattle.frame.specs.Order.{firstOf}
@@ -73,8 +73,8 @@ use Rattle.tp1.specs.declared.Tp1Answer.the-variants.{Refused as Tp1-refused}
 use Rattle.tracer.specs.declared.Explanation.the-variants.{Refused as Unexplained}
 
 -- "Every answer but that of klumdray_check_octet .. carries a number": with a refusal one of the table's
-pub refusals-listed : (r : Refusal) → (1 ≤ number r) × (number r ≤ lastNumber)
-refusals-listed = number-listed
+pub refusals-listed : (r : Refusal) → (1 ≤ number r) × ((number r ≤ lastNumber) × (number r ≡ 22 → ⊥))
+refusals-listed r = (number-listed r .0, (number-listed r .1, number-not-22 r))
 
 -- "A reader's answer is one number of 64 bits. With a refusal every bit above 7 is 0."
 module _ (s : List ℕ) (o : Octets s) where
