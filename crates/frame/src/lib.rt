@@ -1,4 +1,6 @@
 // A frame's meaning, the refusals with their numbers, and the octets that the formats share.
+#![tactic(auto)]
+
 ghost use Rattle.std.specs.Prelude.{◌≡◌};
 ghost use Rattle.frame.specs.Refusals.{number};
 ghost use Rattle.frame.specs.Fields.{control_of, ctrle_of, meaning_of, fields_meaning};
