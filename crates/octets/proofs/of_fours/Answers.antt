@@ -18,7 +18,7 @@ pub loop-turn-preserved : goal.loop-turn-preserved
 loop-turn-preserved c =
     let at-loop = c.loop-turn in
     let s = c.args.octets.now in
-    let o : Octets s = λ i. (c.shared_slice_known-1.given i).fits in
+    let o : Octets s = λ i. (c.type_inv.octets i).fits in
     (omega arith, rw (c.four_at.ensures, c.four_at-in-loop-turn.ensures) (turn_more s o at-loop.all at-loop.turn (length s / 8 * 4) at-loop.invariant.1))
 
 pub returns-then-octets-lt4 : goal.returns-then-octets-lt4
@@ -34,7 +34,7 @@ pub returns-else-octets-lt4 : goal.returns-else-octets-lt4
 returns-else-octets-lt4 c =
     let at-loop = c.loop-turn in
     let s = c.args.octets.now in
-    let o : Octets s = λ i. (c.shared_slice_known-1.given i).fits in
+    let o : Octets s = λ i. (c.type_inv.octets i).fits in
     let half = length s / 8 * 4 in
     let t : at-loop.turn ≡ length s / 8 = omega arith in
     let h : half * 2 ≡ half + half = omega arith in

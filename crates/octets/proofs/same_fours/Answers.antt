@@ -19,8 +19,8 @@ loop-turn-preserved c =
     let s = args.one.now in
     let t = args.other.now in
     let i = at-loop.turn * 4 in
-    let o : Octets s = λ i. (c.shared_slice_known-1.given i).fits in
-    let p : Octets t = λ i. (c.shared_slice_known-2-1.given i).fits in
+    let o : Octets s = λ i. (c.type_inv.one i).fits in
+    let p : Octets t = λ i. (c.type_inv.other i).fits in
     let n : (at-loop.turn + 1) * 4 ≡ i + 4 = omega arith in
     (omega arith, rw (c.four_at.ensures, c.four_at-in-loop-turn.ensures, n) (ap₂ ◌&&◌ at-loop.invariant.1 (four-alike s t o p i) ∙ rw zero-add at (alike-add i 4 0 s t)))
 
