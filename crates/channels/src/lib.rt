@@ -1,4 +1,6 @@
 // The table of channels: each open or closed, with a receive and a send counter.
+#![tactic(auto)]
+
 ghost use Rattle.std.specs.Prelude.{◌≡◌, length};
 ghost use Rattle.channels.specs.Table.{many, closed, fresh, all_closed, channel_at, put, counted, raised};
 
@@ -6,7 +8,7 @@ ghost use Rattle.channels.specs.Table.{many, closed, fresh, all_closed, channel_
 pub const CHANNELS: usize = 4;
 
 // A channel that was never open has counters 0.
-#[derive(Drop)]
+#[derive(Clone, Copy)]
 pub struct Channel {
     pub opened: bool,
     pub receive: u8,

@@ -11,7 +11,7 @@ ghost use Rattle.coupler.specs.Step.{coupler_by, HandedOn, Did};
 use frame::Verdict;
 
 // A coupler's numbers: own line, receiving side (0 main, 1 sub), main medium (0 TP1, 1 IP).
-#[derive(Drop)]
+#[derive(Clone, Copy)]
 pub struct Setting {
     pub line: u8,
     pub side: u8,
@@ -19,14 +19,14 @@ pub struct Setting {
 }
 
 // "CCh", or "no acknowledgement".
-#[derive(Drop)]
+#[derive(Clone, Copy)]
 pub enum Acknowledgement {
     Silence,
     Acknowledged,
 }
 
 // "The step's result: number, acknowledgement or none, for itself or not, octets forwarded (0 if none)."
-#[derive(Drop)]
+#[derive(Clone, Copy)]
 pub struct Outcome {
     pub number: u8,
     pub acknowledgement: Acknowledgement,

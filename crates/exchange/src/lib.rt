@@ -19,7 +19,7 @@ use tunnelling::{Request, RequestAnswer};
 const TUNNELLING_ACK: u16 = 0x0421;
 
 // What becomes of a request: delivered, acknowledged again and not delivered, or refused.
-#[derive(Drop)]
+#[derive(Clone, Copy)]
 pub enum Received {
     Delivered(Request),
     Again,
@@ -33,7 +33,7 @@ pub struct Taken {
 }
 
 // What becomes of an acknowledgement: the send counter raised, or kept under another status than 00h; or refused.
-#[derive(Drop)]
+#[derive(Clone, Copy)]
 pub enum Confirmed {
     Raised,
     Kept,

@@ -8,7 +8,7 @@ ghost use Rattle.frame.specs.Valid.{in_range};
 
 // "A frame's meaning: format, repeat flag, priority, source, AT, destination, hop count, payload".
 // The payload is handed out beside it, as a part of the caller's octets.
-#[derive(Drop)]
+#[derive(Clone, Copy)]
 pub struct Meaning {
     pub extended: bool,
     // The repeat flag as its bit stands: set in a first sending, and in a cEMI request that asks for repetitions.
@@ -21,7 +21,7 @@ pub struct Meaning {
 }
 
 // The rows of document 01's table, with document 02's behind them, in the order of their numbers.
-#[derive(Drop)]
+#[derive(Clone, Copy)]
 pub enum Refusal {
     TooFew,
     NotData,
@@ -49,14 +49,14 @@ pub enum Refusal {
 }
 
 // What tests in their order find: nothing to refuse, or the first refusal.
-#[derive(Drop)]
+#[derive(Clone, Copy)]
 pub enum Verdict {
     Fine,
     Refuse(Refusal),
 }
 
 // What a writer answers: how many octets of the room are the frame's, or why it wrote none.
-#[derive(Drop)]
+#[derive(Clone, Copy)]
 pub enum Written {
     Put(usize),
     Refused(Refusal),

@@ -1,4 +1,6 @@
 // The KNXnet/IP header, told the service wanted.
+#![tactic(auto)]
+
 ghost use Rattle.std.specs.Prelude.{◌≡◌};
 ghost use Rattle.octets.specs.Room.{laid};
 ghost use Rattle.knxnetip.specs.Header.{header_of, is_other_header, is_other_service, is_other_length, read_header};

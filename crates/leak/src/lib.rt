@@ -1,4 +1,6 @@
 // The KNX two-octet float (DPT 9), read and written, the increment that a telegram carries, and the leak total.
+#![tactic(auto)]
+
 mod adding;
 mod reading;
 mod writing;
@@ -12,28 +14,28 @@ ghost use Rattle.leak.specs.Total.{add_to};
 use frame::Refusal;
 
 // "the signed number of hundredths that the two octets stand for"
-#[derive(Drop)]
+#[derive(Clone, Copy)]
 pub enum Value {
     Hundredths(i32),
     Refused(Refusal),
 }
 
 // The two octets as one number, high octet first.
-#[derive(Drop)]
+#[derive(Clone, Copy)]
 pub enum Coded {
     Code(u16),
     Refused(Refusal),
 }
 
 // What a payload carries: a two-octet float, or no increment.
-#[derive(Drop)]
+#[derive(Clone, Copy)]
 pub enum Carried {
     Float(u16),
     Nothing,
 }
 
 // The total with the increment, or why it stays as it was.
-#[derive(Drop)]
+#[derive(Clone, Copy)]
 pub enum Added {
     Sum(i64),
     Refused(Refusal),

@@ -1,5 +1,7 @@
 // Who may pass a coupler, with what count, and if not, why not. A direction is 0 main to sub or 1 sub
 // to main; an address is its kind (0 individual, 1 group) and its number.
+#![tactic(auto)]
+
 mod addresses;
 mod hops;
 pub mod settings;
@@ -11,7 +13,7 @@ pub use addresses::is_own;
 pub use hops::{hopped_count, stays};
 
 // What a coupler makes of a telegram: it lets it pass, or the first reason why not.
-#[derive(Drop)]
+#[derive(Clone, Copy)]
 pub enum Passage {
     Passes,
     NotFitted,

@@ -7,7 +7,7 @@ use leak::{Added, Carried};
 use tp1::Tp1Answer;
 
 // What a frame is to the station: an increment of the total, or why it adds nothing.
-#[derive(Drop)]
+#[derive(Clone, Copy)]
 pub enum Telegram {
     Increment(u16),
     Repetition,

@@ -1,4 +1,6 @@
 // TP1 data frames, standard and extended: read, the payload handed out, written.
+#![tactic(auto)]
+
 mod reading;
 mod writing;
 
@@ -11,7 +13,7 @@ ghost use Rattle.tp1.specs.Reading.{meaning_in, read_tp1, payload_at, payload_in
 
 use frame::{Meaning, Refusal, Written};
 
-#[derive(Drop)]
+#[derive(Clone, Copy)]
 pub enum Tp1Answer {
     Frame(Meaning),
     Refused(Refusal),

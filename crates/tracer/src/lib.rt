@@ -18,7 +18,7 @@ use frame::{Refusal, Verdict};
 use passing::Passage;
 
 // What a planner asks: starting line, kind (0 individual, 1 group), destination, count.
-#[derive(Drop)]
+#[derive(Clone, Copy)]
 pub struct Query {
     pub start: u8,
     pub kind: u8,
@@ -42,7 +42,7 @@ pub struct Arrivals {
 }
 
 // The first coupler on the path that does not hand the telegram on, and why.
-#[derive(Drop)]
+#[derive(Clone, Copy)]
 pub struct Stop {
     pub coupler: u8,
     pub direction: u8,
@@ -50,13 +50,13 @@ pub struct Stop {
 }
 
 // A telegram on its way: going, with its count, or stopped.
-#[derive(Drop)]
+#[derive(Clone, Copy)]
 pub enum Walk {
     Going(u8),
     Stopped(Stop),
 }
 
-#[derive(Drop)]
+#[derive(Clone, Copy)]
 pub enum Explanation {
     Reached,
     NotReached(Stop),

@@ -16,27 +16,27 @@ const TUNNELLING_REQUEST: u16 = 0x0420;
 
 const TUNNELLING_ACK: u16 = 0x0421;
 
-#[derive(Drop)]
+#[derive(Clone, Copy)]
 pub struct Request {
     pub channel: u8,
     pub counter: u8,
     pub message: Message,
 }
 
-#[derive(Drop)]
+#[derive(Clone, Copy)]
 pub enum RequestAnswer {
     Frame(Request),
     Refused(Refusal),
 }
 
-#[derive(Drop)]
+#[derive(Clone, Copy)]
 pub struct Acknowledgement {
     pub channel: u8,
     pub counter: u8,
     pub status: u8,
 }
 
-#[derive(Drop)]
+#[derive(Clone, Copy)]
 pub enum AcknowledgementAnswer {
     Frame(Acknowledgement),
     Refused(Refusal),

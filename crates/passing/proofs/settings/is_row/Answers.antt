@@ -1,0 +1,9 @@
+-- The four codes of the row, as the calls ensure them.
+use borrow.Author.Rules.{rules}
+use Rattle.passing.specs.Settings.{is_row}
+use Rattle.passing.proofs.settings.is_row.Goals as goal
+
+pub returns : goal.returns
+unfolding is_row
+returns c =
+    rw (c.is_code-individual.ensures, c.code_in.ensures, c.is_code-broadcast.ensures, c.code_in-2.ensures, c.is_code-lower.ensures, c.code_in-3.ensures, c.is_code-upper.ensures, c.code_in-4.ensures)
