@@ -1,0 +1,6 @@
+-- The same closed channel in every place.
+use borrow.Author.Rules.{rules}
+use Rattle.channels.proofs.all_closed.Goals as goal
+
+pub returns : goal.returns
+returns c = rw c.closed-channels.ensures

@@ -1,0 +1,6 @@
+-- What `put` ensures, of a fresh channel.
+use borrow.Author.Rules.{rules}
+use Rattle.channels.proofs.opened.Goals as goal
+
+pub returns : goal.returns
+returns c = rw (← c.fresh.ensures) c.put-channels.ensures
