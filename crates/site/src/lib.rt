@@ -1,5 +1,7 @@
 // Sites: the records of the couplers that are fitted, their filter tables in two lent stores, which
 // sites are well-formed, and whom each coupler lets pass.
+#![tactic(auto)]
+
 mod records;
 pub mod stores;
 

@@ -1,4 +1,6 @@
 // KNXnet/IP tunnelling on the wire: requests, which carry one cEMI message, and their acknowledgements.
+#![tactic(auto)]
+
 ghost use Rattle.std.specs.Prelude.{◌≡◌, true, length};
 ghost use Rattle.octets.specs.Part.{PartAt};
 ghost use Rattle.octets.specs.Room.{laid};

@@ -12,4 +12,4 @@ pub returns-else-at-size : goal.returns-else-at-size
 returns-else-at-size c =
     let h = c.size.ensures.0 in
     let a = c.args in
-    c.closed-else-at-size.ensures ∙ sym (at_none a.t1 a.number (omega arith))
+    c.closed-else-at-size.ensures ∙ sym (at_none a.channels a.number (omega arith))

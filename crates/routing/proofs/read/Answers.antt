@@ -1,0 +1,19 @@
+-- The header's tests stand before the message's: they refuse, or the rest of the order is `cemi`'s.
+use mathlib.Core.Path.{sym, ◌∙◌}
+use lib.ListN.{drop}
+use borrow.Author.Rules.{rules}
+use Rattle.cemi.specs.Reading.{cemi_tests, read_cemi}
+use Rattle.cemi.specs.declared.Codes.TheVariants.{IndicationOnly}
+use Rattle.frame.proofs.Order.{first-passed, first-refused}
+use Rattle.octets.proofs.Split.{rest-is}
+use Rattle.knxnetip.proofs.HeaderLaws.{header-verdict, header-least}
+use Rattle.knxnetip.specs.Header.{header_tests}
+use Rattle.routing.specs.Layout.{routing_service}
+use Rattle.routing.specs.Reading.{read_routing}
+use Rattle.routing.proofs.read.Goals as goal
+
+pub returns-in-Refuse : goal.returns-in-Refuse
+unfolding read_routing
+returns-in-Refuse c =
+    let s = c.args.octets.now in
+    rw (first-refused (header_tests routing_service s) (cemi_tests IndicationOnly (drop 6 s)) _ (header-verdict routing_service s (sym c.read_header-header.ensures ∙ c.header-1.given.1)))

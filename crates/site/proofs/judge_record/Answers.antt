@@ -1,0 +1,52 @@
+-- Each return is the first test that is true, by those that led there.
+use mathlib.Core.Path.{refl, sym, ◌∙◌}
+use borrow.Author.Rules.{rules}
+use Rattle.site.proofs.judge_record.Goals as goal
+
+pub returns-then-wrong : goal.returns-then-wrong
+returns-then-wrong c =
+    rw (
+      sym c.is_marked.ensures ∙ c.if-is_marked.true,
+      ← c.line_of.ensures,
+      ← c.codes_of.ensures,
+      ← c.are_codes-allowed.ensures,
+      c.if-wrong.true,
+    ) refl
+
+pub returns-then-twice : goal.returns-then-twice
+returns-then-twice c =
+    rw (
+      sym c.is_marked.ensures ∙ c.if-is_marked.true,
+      ← c.line_of.ensures,
+      ← c.codes_of.ensures,
+      ← c.are_codes-allowed.ensures,
+      c.if-wrong.false,
+      sym c.has_table.ensures ∙ c.if-has_table.true,
+      c.if-twice.true,
+    ) refl
+
+pub returns-else-twice : goal.returns-else-twice
+returns-else-twice c =
+    rw (
+      sym c.is_marked.ensures ∙ c.if-is_marked.true,
+      ← c.line_of.ensures,
+      ← c.codes_of.ensures,
+      ← c.are_codes-allowed.ensures,
+      c.if-wrong.false,
+      sym c.has_table.ensures ∙ c.if-has_table.true,
+      c.if-twice.false,
+    ) refl
+
+pub returns-else-has_table : goal.returns-else-has_table
+returns-else-has_table c =
+    rw (
+      sym c.is_marked.ensures ∙ c.if-is_marked.true,
+      ← c.line_of.ensures,
+      ← c.codes_of.ensures,
+      ← c.are_codes-allowed.ensures,
+      c.if-wrong.false,
+      sym c.has_table.ensures ∙ c.if-has_table.false,
+    ) refl
+
+pub returns-else-is_marked : goal.returns-else-is_marked
+returns-else-is_marked c = rw (sym c.is_marked.ensures ∙ c.if-is_marked.false) refl

@@ -1,0 +1,9 @@
+-- Both stores by the one test.
+use mathlib.Core.Path.{refl}
+use borrow.Author.Rules.{rules}
+use Rattle.site.specs.Stores.{are_stores}
+use Rattle.site.proofs.stores.are_stores.Goals as goal
+
+pub returns : goal.returns
+unfolding are_stores
+returns c = rw (c.LOOK-is_IsStore.ensures, c.is_store-2.ensures) refl

@@ -1,0 +1,20 @@
+-- The tests of header and connection header refuse, or the last one decides.
+use mathlib.Core.List.{[], ◌∷◌}
+use mathlib.Core.Path.{◌≡◌, sym, ◌∙◌}
+use lib.Dec.{ltb}
+use lib.ListN.{length}
+use borrow.Author.Rules.{rules}
+use borrow.Author.Tests.{lt-ltb, le-ltb}
+use Rattle.frame.proofs.Order.{first-passed, first-refused}
+use Rattle.frame.specs.Order.{◌gives◌}
+use Rattle.frame.specs.declared.Refusal.TheVariants.{LeftOver}
+use Rattle.tunnelling.proofs.ConnectionLaws.{connection-verdict}
+use Rattle.tunnelling.specs.Layout.{acknowledgement_service}
+use Rattle.tunnelling.specs.Reading.{connected_tests, read_acknowledgement}
+use Rattle.tunnelling.proofs.read_acknowledgement.Goals as goal
+
+pub returns-in-Refuse : goal.returns-in-Refuse
+unfolding read_acknowledgement
+returns-in-Refuse c =
+    let s = c.args.octets.now in
+    rw (first-refused (connected_tests acknowledgement_service s) (ltb 10 (length s) gives LeftOver ∷ []) _ (connection-verdict acknowledgement_service s (sym c.read_connection-connection.ensures ∙ c.connection-1.given.1)))
