@@ -12,8 +12,22 @@ use Rattle.routing.specs.Layout.{routing_service}
 use Rattle.routing.specs.Reading.{read_routing}
 use Rattle.routing.proofs.read.Goals as goal
 
+pub slice_bounds-read-count : goal.slice_bounds-read-count
+slice_bounds-read-count c =
+    header-least routing_service c.args.octets.now (sym c.read_header-header.ensures ∙ c.in-Fine.is)
+
+pub slice_bounds-read-start : goal.slice_bounds-read-start
+slice_bounds-read-start c =
+    header-least routing_service c.args.octets.now (sym c.read_header-header.ensures ∙ c.in-Fine.is)
+
 pub returns-in-Refuse : goal.returns-in-Refuse
 unfolding read_routing
 returns-in-Refuse c =
     let s = c.args.octets.now in
-    rw (first-refused (header_tests routing_service s) (cemi_tests IndicationOnly (drop 6 s)) _ (header-verdict routing_service s (sym c.read_header-header.ensures ∙ c.header-1.given.1)))
+    rw (first-refused (header_tests routing_service s) (cemi_tests IndicationOnly (drop 6 s)) _ (header-verdict routing_service s (sym c.read_header-header.ensures ∙ c.in-Refuse.is)))
+
+pub returns-in-Fine : goal.returns-in-Fine
+unfolding read_routing read_cemi
+returns-in-Fine c =
+    let s = c.args.octets.now in
+    rw (first-passed (header_tests routing_service s) (cemi_tests IndicationOnly (drop 6 s)) (header-verdict routing_service s (sym c.read_header-header.ensures ∙ c.in-Fine.is))) (rw (rest-is 6 s) at c.read.ensures)

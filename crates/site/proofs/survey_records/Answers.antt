@@ -14,7 +14,7 @@ loop-octets-init c = surveying-none _ _ _ refl
 
 pub returns-in-Refuse : goal.returns-in-Refuse
 returns-in-Refuse c =
-    surveying-refused c.loop-octets.invariant c.record_from.ensures c.loop-octets-test.true c.record_from-octets.ensures c.line_of-line.ensures (search rules) c.judge_record-judged.ensures _ c.judged-1.given.1 c.refused.ensures
+    surveying-refused c.loop-octets.invariant c.record_from.ensures c.loop-octets-test.true c.record_from-octets.ensures c.line_of-line.ensures (search rules) c.judge_record-judged.ensures _ c.in-Refuse.is c.refused.ensures
 
 pub overflow_cast-from : goal.overflow_cast-from
 overflow_cast-from c = omega (arith, record-most _ _ c.record_from-octets.ensures)
@@ -26,6 +26,10 @@ overflow_add-from c =
 pub loop-octets-smaller : goal.loop-octets-smaller
 loop-octets-smaller c =
     omega (arith, record-some _ _ c.record_from.ensures c.loop-octets-test.true c.record_from-octets.ensures)
+
+pub loop-octets-preserved : goal.loop-octets-preserved
+loop-octets-preserved c =
+    surveying-more c.loop-octets.invariant c.record_from.ensures c.loop-octets-test.true c.record_from-octets.ensures c.line_of-line.ensures (search rules) c.judge_record-judged.ensures c.enum_told-1.given.1
 
 pub overflow_cast-from-2 : goal.overflow_cast-from-2
 overflow_cast-from-2 c = omega (arith, apart-few c.loop-octets.invariant.apart)

@@ -17,4 +17,16 @@ pub returns-in-Refuse : goal.returns-in-Refuse
 unfolding read_acknowledgement
 returns-in-Refuse c =
     let s = c.args.octets.now in
-    rw (first-refused (connected_tests acknowledgement_service s) (ltb 10 (length s) gives LeftOver ∷ []) _ (connection-verdict acknowledgement_service s (sym c.read_connection-connection.ensures ∙ c.connection-1.given.1)))
+    rw (first-refused (connected_tests acknowledgement_service s) (ltb 10 (length s) gives LeftOver ∷ []) _ (connection-verdict acknowledgement_service s (sym c.read_connection-connection.ensures ∙ c.in-Refuse.is)))
+
+pub returns-then-octets-gt10 : goal.returns-then-octets-gt10
+unfolding read_acknowledgement
+returns-then-octets-gt10 c =
+    let s = c.args.octets.now in
+    rw (first-passed (connected_tests acknowledgement_service s) (ltb 10 (length s) gives LeftOver ∷ []) (connection-verdict acknowledgement_service s (sym c.read_connection-connection.ensures ∙ c.enum_told-1.given.1)), lt-ltb 10 (length s) c.if-octets-gt10.true)
+
+pub returns : goal.returns
+unfolding read_acknowledgement
+returns c =
+    let s = c.args.octets.now in
+    rw (first-passed (connected_tests acknowledgement_service s) (ltb 10 (length s) gives LeftOver ∷ []) (connection-verdict acknowledgement_service s (sym c.read_connection-connection.ensures ∙ c.enum_told-1.given.1)), le-ltb 10 (length s) c.if-octets-gt10.false, c.octet.ensures, c.octet-2.ensures, c.octet-3.ensures)

@@ -13,4 +13,11 @@ unfolding read_connection
 returns-in-Refuse c =
     let a = c.args in
     let s = a.octets.now in
-    rw (first-refused (header_tests a.service s) (connection_tests s) _ (header-verdict a.service s (sym c.read_header-header.ensures ∙ c.header-1.given.1)))
+    rw (first-refused (header_tests a.service s) (connection_tests s) _ (header-verdict a.service s (sym c.read_header-header.ensures ∙ c.in-Refuse.is)))
+
+pub returns-in-Fine : goal.returns-in-Fine
+unfolding read_connection judge_connection
+returns-in-Fine c =
+    let a = c.args in
+    let s = a.octets.now in
+    rw (first-passed (header_tests a.service s) (connection_tests s) (header-verdict a.service s (sym c.read_header-header.ensures ∙ c.in-Fine.is))) c.judge_connection.ensures
