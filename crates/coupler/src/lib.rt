@@ -1,4 +1,6 @@
 // One coupler step: what is forwarded, what is acknowledged, what is remembered.
+#![tactic(auto)]
+
 mod forwarding;
 mod remembering;
 mod repeating;

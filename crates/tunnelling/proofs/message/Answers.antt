@@ -10,7 +10,7 @@ use Rattle.octets.proofs.Split.{rest-is}
 use Rattle.tunnelling.proofs.message.Goals as goal
 
 pub returns-in_default : goal.returns-in_default
-returns-in_default c = rw c.enum_told-in_default-1.given.1 (record { holds = refl; block = refl; offset = omega arith })
+returns-in_default c = rw c.in_default.is (record { holds = refl; block = refl; offset = omega arith })
 
 pub returns-then-octets-lt10 : goal.returns-then-octets-lt10
 returns-then-octets-lt10 c =

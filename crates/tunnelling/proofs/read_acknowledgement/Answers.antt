@@ -23,10 +23,10 @@ pub returns-then-octets-gt10 : goal.returns-then-octets-gt10
 unfolding read_acknowledgement
 returns-then-octets-gt10 c =
     let s = c.args.octets.now in
-    rw (first-passed (connected_tests acknowledgement_service s) (ltb 10 (length s) gives LeftOver ∷ []) (connection-verdict acknowledgement_service s (sym c.read_connection-connection.ensures ∙ c.enum_told-1.given.1)), lt-ltb 10 (length s) c.if-octets-gt10.true)
+    rw (first-passed (connected_tests acknowledgement_service s) (ltb 10 (length s) gives LeftOver ∷ []) (connection-verdict acknowledgement_service s (sym c.read_connection-connection.ensures ∙ c.in_default.is)), lt-ltb 10 (length s) c.if-octets-gt10.true)
 
 pub returns : goal.returns
 unfolding read_acknowledgement
 returns c =
     let s = c.args.octets.now in
-    rw (first-passed (connected_tests acknowledgement_service s) (ltb 10 (length s) gives LeftOver ∷ []) (connection-verdict acknowledgement_service s (sym c.read_connection-connection.ensures ∙ c.enum_told-1.given.1)), le-ltb 10 (length s) c.if-octets-gt10.false, c.octet.ensures, c.octet-2.ensures, c.octet-3.ensures)
+    rw (first-passed (connected_tests acknowledgement_service s) (ltb 10 (length s) gives LeftOver ∷ []) (connection-verdict acknowledgement_service s (sym c.read_connection-connection.ensures ∙ c.in_default.is)), le-ltb 10 (length s) c.if-octets-gt10.false, c.octet.ensures, c.octet-2.ensures, c.octet-3.ensures)

@@ -20,17 +20,17 @@ returns-in-Refuse c =
 
 pub slice_bounds-read-count : goal.slice_bounds-read-count
 slice_bounds-read-count c =
-    connection-least request_service c.args.octets.now (sym c.read_connection-connection.ensures ∙ c.enum_told-1.given.1)
+    connection-least request_service c.args.octets.now (sym c.read_connection-connection.ensures ∙ c.in_default.is)
 
 pub slice_bounds-read-start : goal.slice_bounds-read-start
 slice_bounds-read-start c =
-    connection-least request_service c.args.octets.now (sym c.read_connection-connection.ensures ∙ c.enum_told-1.given.1)
+    connection-least request_service c.args.octets.now (sym c.read_connection-connection.ensures ∙ c.in_default.is)
 
 pub returns-in-Refused : goal.returns-in-Refused
 unfolding read_request
 returns-in-Refused c =
     let s = c.args.octets.now in
-    let fine = connection-verdict request_service s (sym c.read_connection-connection.ensures ∙ c.in-Refused.is) in
+    let fine = connection-verdict request_service s (sym c.read_connection-connection.ensures ∙ c.in_default.is) in
     let read = sym (rw (rest-is 10 s) at c.read-answer.ensures) ∙ c.in-Refused.is in
     rw (first-passed (connected_tests request_service s) (cemi_tests All (message s)) fine, (refused-iff (cemi_tests All (message s)) _).1 ((cemi-refused All (message s) _).0 read))
 
@@ -38,7 +38,7 @@ pub returns-in-Frame : goal.returns-in-Frame
 unfolding read_request
 returns-in-Frame c =
     let s = c.args.octets.now in
-    let fine = connection-verdict request_service s (sym c.read_connection-connection.ensures ∙ c.in-Frame.is) in
+    let fine = connection-verdict request_service s (sym c.read_connection-connection.ensures ∙ c.in_default.is) in
     let read = sym (rw (rest-is 10 s) at c.read-answer.ensures) ∙ c.in-Frame.is in
     let w = (cemi-accepted All (message s) _).0 read in
     rw (first-passed (connected_tests request_service s) (cemi_tests All (message s)) fine, (passed-iff (cemi_tests All (message s))).1 w.0, w.1, c.octet.ensures, c.octet-in-Frame.ensures)
