@@ -37,13 +37,13 @@ pub struct Outcome {
 }
 
 // The last accepted frame of a TP1 side; size 0 is none.
-#[derive(Drop)]
+#[derive(Clone, Copy)]
 pub struct Remembered {
     pub size: usize,
     pub octets: [u8; 263],
 }
 
-#[derive(Drop)]
+#[derive(Clone, Copy)]
 pub struct Memory {
     pub main: Remembered,
     pub sub: Remembered,

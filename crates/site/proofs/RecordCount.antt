@@ -67,14 +67,14 @@ counted-more {lines} w r below set fresh =
 -- so many records at most, and so many octets
 most-by : (st : Stores) {lines : List ℕ} {count : ℕ} → Counted lines count → (k : ℕ) (s : List ℕ) → Octets s → length s ≤ k → NoneOf (records_tests st lines (records_by k s))
     → (length (records_by k s) + count ≤ 255) × (length s ≤ 12 * length (records_by k s))
-most-by st w zero s o h n = (omega (arith, counted-most w), omega arith)
-most-by st w (suc k) [] o h n = (omega (arith, counted-most w), omega arith)
-most-by st w (suc k) (x ∷ xs) o h n =
+most-by st {lines = lines} {count = count} w zero s o h n = (omega (arith, counted-most w), omega arith)
+most-by st {lines = lines} {count = count} w (suc k) [] o h n = (omega (arith, counted-most w), omega arith)
+most-by st {lines = lines} {count = count} w (suc k) (x ∷ xs) o h n =
     let s = x ∷ xs in
     let z = record_size s in
     let left = length-drop z s in
     let more = counted-more w (first_record s) (first-octets s o 2) n.1.0 n.1.1.1.0 in
-    let rest = most-by st more k (drop z s) (octets-drop z s o) (omega (arith, left, size-some s)) n.1.1.1.1 in
+    let rest = most-by st {lines = line_of (first_record s) ∷ lines} {count = suc count} more k (drop z s) (octets-drop z s o) (omega (arith, left, size-some s)) n.1.1.1.1 in
     (omega (arith, rest.0), omega (arith, left, size-some s, rest.1))
 
 pub site-most : (st : Stores) (site : List ℕ) → Octets site → NoneOf (site_tests st site) → (length (records_of site) ≤ 255) × (length site ≤ 3060)

@@ -29,7 +29,7 @@ loop-octets-smaller c =
 
 pub loop-octets-preserved : goal.loop-octets-preserved
 loop-octets-preserved c =
-    surveying-more c.loop-octets.invariant c.record_from.ensures c.loop-octets-test.true c.record_from-octets.ensures c.line_of-line.ensures (search rules) c.judge_record-judged.ensures c.enum_told-1.given.1
+    surveying-more c.loop-octets.invariant c.record_from.ensures c.loop-octets-test.true c.record_from-octets.ensures c.line_of-line.ensures (search rules) c.judge_record-judged.ensures c.in_default.is
 
 pub overflow_cast-from-2 : goal.overflow_cast-from-2
 overflow_cast-from-2 c = omega (arith, apart-few c.loop-octets.invariant.apart)

@@ -6,4 +6,4 @@ use Rattle.site.proofs.stores.are_stores.Goals as goal
 
 pub returns : goal.returns
 unfolding are_stores
-returns c = rw (c.LOOK-is_IsStore.ensures, c.is_store-2.ensures) refl
+returns c = rw (c.is_store.ensures, c.is_store-2.ensures) refl

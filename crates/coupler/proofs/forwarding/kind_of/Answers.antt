@@ -1,0 +1,6 @@
+-- The bit of AT, as `flag` weighs it.
+use borrow.Author.Rules.{rules}
+use Rattle.coupler.proofs.forwarding.kind_of.Goals as goal
+
+pub returns : goal.returns
+returns c = c.flag.ensures

@@ -1,0 +1,26 @@
+-- Whether the frame is forwarded is settled in each arm; the rest is what the parts ensure.
+use mathlib.Core.Bool.{Bool, not, ◌&&◌}
+use mathlib.Core.Path.{refl, sym, ap, ◌∙◌}
+use borrow.Author.Rules.{rules}
+use Rattle.coupler.proofs.forwarding.pass_on.Goals as goal
+
+pub returns-then-forwards : goal.returns-then-forwards
+returns-then-forwards c =
+    let forward = c.forward-forwarded in
+    let if1 = c.if-forwards in
+    let is-allowed = c.is_allowed-allowed in
+    let is-own = c.is_own-own in
+    let kind-of = c.kind_of in
+    let forwards = ap (λ (b : Bool). b && not c.args.repetition) (sym is-allowed.ensures) ∙ if1.true in
+    record {
+      outcome = rw (c.acknowledgement-acknowledgement.ensures, is-own.ensures, kind-of.ensures, is-allowed.ensures, forwards, forward.ensures.count);
+      left = rw forwards forward.ensures.left;
+    }
+
+pub returns-else-forwards : goal.returns-else-forwards
+returns-else-forwards c =
+    let is-allowed = c.is_allowed-allowed in
+    let is-own = c.is_own-own in
+    let kind-of = c.kind_of in
+    let stops = ap (λ (b : Bool). b && not c.args.repetition) (sym is-allowed.ensures) ∙ c.if-forwards.false in
+    record { outcome = rw (c.acknowledgement-acknowledgement.ensures, is-own.ensures, kind-of.ensures, is-allowed.ensures, stops); left = rw stops refl }

@@ -1,0 +1,35 @@
+-- A refusal is the reader's; an accepted frame has a form on either medium, so that `pass_on` can take it.
+use mathlib.Core.Path.{sym, ◌∙◌}
+use borrow.Author.Rules.{rules}
+use Rattle.coupler.proofs.HearingLaws.{heard-frame, heard-nothing, heard-ranged}
+use Rattle.coupler.proofs.StepLaws.{handed, handed-nothing}
+use Rattle.coupler.specs.Step.{coupler_by, from_ip}
+use Rattle.coupler.proofs.forwarding.receive.Goals as goal
+
+pub pass_on-requires : goal.pass_on-requires
+pass_on-requires c =
+    let answer2 = c.answer-in-Frame-1 in
+    let hear = c.hear-answer in
+    let shared-slice-known3 = c.shared_slice_known-3-1 in
+    let a = c.args in
+    let ip = from_ip (coupler_by a.setting a.codes a.table.now) in
+    let read = sym hear.ensures ∙ answer2.given.1 in
+    (rw (← c.payload_of-payload.ensures) at (heard-ranged ip a.octets.now _ (λ i. (shared-slice-known3.given i).fits) read), c.requires)
+
+pub returns-in-Refused : goal.returns-in-Refused
+returns-in-Refused c =
+    let hear = c.hear-answer in
+    let a = c.args in
+    let ip = from_ip (coupler_by a.setting a.codes a.table.now) in
+    let read = sym hear.ensures ∙ c.in-Refused.is in
+    rw (heard-nothing ip a.octets.now _ read) (handed-nothing _ _ _ _ _ c.refused.ensures)
+
+pub returns-in-Frame : goal.returns-in-Frame
+returns-in-Frame c =
+    let repeats = c.repeats-repetition in
+    let payload-of = c.payload_of-payload in
+    let hear = c.hear-answer in
+    let a = c.args in
+    let ip = from_ip (coupler_by a.setting a.codes a.table.now) in
+    let read = sym hear.ensures ∙ c.in-Frame.is in
+    rw (heard-frame ip a.octets.now _ read) (handed repeats.ensures (rw payload-of.ensures at c.pass_on.ensures))

@@ -1,0 +1,6 @@
+-- Both sides, as the calls ensure them.
+use borrow.Author.Rules.{rules}
+use Rattle.coupler.proofs.nothing_remembered.Goals as goal
+
+pub returns : goal.returns
+returns c = rw (c.none-main.ensures, c.none-sub.ensures)
