@@ -1,6 +1,8 @@
 // Tunnelling over a table of channels: a request is received and acknowledged, a request is sent, an
 // acknowledgement is received. Each call has a core that is given the channel, for callers that keep
 // the table themselves.
+#![tactic(auto)]
+
 mod confirming;
 mod receiving;
 

@@ -1,4 +1,6 @@
 // The tracer: which lines of a site a telegram comes to, and why it does not come to another.
+#![tactic(auto)]
+
 mod lines;
 mod listing;
 mod reaching;

@@ -24,8 +24,7 @@ returns-in-Refuse c =
 pub returns-in-Fine : goal.returns-in-Fine
 unfolding heard
 returns-in-Fine c =
-    let enum_told = c.enum_told-1 in
     let judge = c.judge-judged in
     let a = c.args in
     let k = coupler_by a.setting a.codes a.table.now in
-    handed-on (ap (λ (v : Verdict). after v (read_by (from_ip k) a.octets.now)) (sym judge.ensures ∙ enum_told.given.1)) c.receive.ensures
+    handed-on (ap (λ (v : Verdict). after v (read_by (from_ip k) a.octets.now)) (sym judge.ensures ∙ c.in-Fine.is)) c.receive.ensures

@@ -8,13 +8,11 @@ use Rattle.coupler.proofs.forwarding.receive.Goals as goal
 
 pub pass_on-requires : goal.pass_on-requires
 pass_on-requires c =
-    let answer2 = c.answer-in-Frame-1 in
     let hear = c.hear-answer in
-    let shared-slice-known3 = c.shared_slice_known-3-1 in
     let a = c.args in
     let ip = from_ip (coupler_by a.setting a.codes a.table.now) in
-    let read = sym hear.ensures ∙ answer2.given.1 in
-    (rw (← c.payload_of-payload.ensures) at (heard-ranged ip a.octets.now _ (λ i. (shared-slice-known3.given i).fits) read), c.requires)
+    let read = sym hear.ensures ∙ c.in-Frame.is in
+    (rw (← c.payload_of-payload.ensures) at (heard-ranged ip a.octets.now _ (λ i. (c.type_inv.octets i).fits) read), c.requires)
 
 pub returns-in-Refused : goal.returns-in-Refused
 returns-in-Refused c =

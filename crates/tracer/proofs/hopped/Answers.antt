@@ -1,0 +1,6 @@
+-- The hop rule, as `hopped_count` ensures it.
+use borrow.Author.Rules.{rules}
+use Rattle.tracer.proofs.hopped.Goals as goal
+
+pub returns : goal.returns
+returns c = c.hopped_count.ensures

@@ -1,0 +1,33 @@
+-- What stands at the front of the room are the entries of the lines so far.
+use Prim.Native.Nat.{◌-◌}
+use native.Mathlib.Omega.{arith}
+use Rattle.tracer.proofs.RoomLaws.{Listing, listing_none, listing-more, listing-all}
+use Rattle.tracer.proofs.listing.list.Goals as goal
+
+pub loop-line-init : goal.loop-line-init
+loop-line-init c = listing_none c.args.query c.args.lines.now c.args.room.now
+
+pub overflow_cast-line : goal.overflow_cast-line
+overflow_cast-line c = omega arith
+
+pub list_line-listed-requires : goal.list_line-listed-requires
+list_line-listed-requires c =
+    let at-loop = c.loop-line in
+    omega (arith, at-loop.invariant.few, at-loop.invariant.same, c.requires)
+
+pub overflow_add-line : goal.overflow_add-line
+overflow_add-line c = omega arith
+
+pub loop-line-smaller : goal.loop-line-smaller
+loop-line-smaller c = omega arith
+
+pub loop-line-preserved : goal.loop-line-preserved
+loop-line-preserved c =
+    let put = c.list_line-listed in
+    listing-more c.requires c.loop-line.invariant c.loop-line-test.true put.ensures.0 put.ensures.1 put.auto.1.1.1.1.0
+
+pub shape_of-room : goal.shape_of-room
+shape_of-room c = c.loop-line.invariant.same
+
+pub returns : goal.returns
+returns c = listing-all c.loop-line.invariant c.loop-line-test.false

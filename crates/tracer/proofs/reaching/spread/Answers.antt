@@ -1,0 +1,46 @@
+-- The lines below the one at hand are known; its main side is one of them.
+use Prim.Native.Nat.{◌-◌}
+use mathlib.Core.Logic.{⊎_elim}
+use mathlib.Core.Path.{refl}
+use native.Mathlib.Omega.{arith}
+use borrow.Author.Tests.{lt-ltb, le-ltb}
+use Rattle.tracer.proofs.ReachingLaws.{Spreading, spreading-none, made-few, spreading-all, spreading-more}
+use Rattle.tracer.specs.Lines.{main_side}
+use Rattle.tracer.specs.Reaching.{marked}
+use Rattle.tracer.proofs.reaching.spread.Goals as goal
+use Rattle.tracer.proofs.reaching.spread.Goals.{else-reached-gt1, then-reached-gt1}
+
+pub loop-line-init : goal.loop-line-init
+loop-line-init c = spreading-none (marked c.args.down.now c.args.up.now) c.args.start c.args.count _ refl
+
+pub overflow_cast-line : goal.overflow_cast-line
+overflow_cast-line c = omega arith
+
+pub reach_of-reached-requires : goal.reach_of-reached-requires
+reach_of-reached-requires c =
+    let at-loop = c.loop-line in
+    omega (arith, at-loop.invariant.few (main_side at-loop.line))
+
+pub bounds-lines-line : goal.bounds-lines-line
+bounds-lines-line c = omega arith
+
+pub overflow_add-forwardings : goal.overflow_add-forwardings
+overflow_add-forwardings c = omega (arith, made-few c.loop-line.invariant)
+
+pub overflow_add-line : goal.overflow_add-line
+overflow_add-line c = omega arith
+
+pub loop-line-smaller : goal.loop-line-smaller
+loop-line-smaller c = omega arith
+
+pub loop-line-preserved : goal.loop-line-preserved
+loop-line-preserved c =
+    let a = c.args in
+    spreading-more a.down.now a.up.now c.loop-line.invariant c.loop-line-test.true c.reach_of-reached.ensures
+    (elim c.if-reached-gt1.branch [
+      then-reached-gt1 w ↦ rw (lt-ltb 1 _ w.if-reached-gt1.true) w.LOOK-is1
+    | else-reached-gt1 w ↦ rw (le-ltb 1 _ w.if-reached-gt1.false) (omega (arith, w.LOOK-is1))
+    ])
+
+pub returns : goal.returns
+returns c = spreading-all c.loop-line.invariant c.loop-line-test.false

@@ -1,0 +1,17 @@
+-- The lines below the one at hand are known; its main side is one of them.
+use Prim.Native.Nat.{◌-◌}
+use mathlib.Core.Logic.{⊎_elim}
+use mathlib.Core.Path.{refl}
+use native.Mathlib.Omega.{arith}
+use borrow.Author.Tests.{lt-ltb, le-ltb}
+use Rattle.tracer.proofs.ReachingLaws.{Spreading, spreading-none, made-few, spreading-all, spreading-more}
+use Rattle.tracer.specs.Lines.{main_side}
+use Rattle.tracer.specs.Reaching.{marked}
+use Rattle.tracer.proofs.reaching.spread.Given as goal
+
+abbrev pub invariant-loop-line : goal.invariant-loop-line
+invariant-loop-line l =
+    Spreading (marked l.down l.up) l.start l.count l.lines l.forwardings l.line
+
+abbrev pub decreases-loop-line : goal.decreases-loop-line
+decreases-loop-line l = 256 - l.line

@@ -1,0 +1,6 @@
+-- The refusal's number, as the call ensures it.
+use borrow.Author.Rules.{rules}
+use Rattle.tracer.proofs.refused.Goals as goal
+
+pub returns : goal.returns
+returns c = rw c.number.ensures

@@ -1,0 +1,36 @@
+-- Refused by the query, refused by the site, or the list: the first verdict that is none of fine.
+use mathlib.Core.Path.{sym, ◌∙◌}
+use borrow.Author.Rules.{rules}
+use Rattle.site.proofs.StartLaws.{survey-notes}
+use Rattle.site.specs.Stores.{stores}
+use Rattle.tracer.proofs.ListedBy.{asked-room, asked-refused, site-refused, trace-listed}
+use Rattle.tracer.proofs.trace.Goals as goal
+
+pub returns-in-Refuse : goal.returns-in-Refuse
+returns-in-Refuse c =
+    let judge = c.judge-judged in
+    asked-refused _ _ _ _ (sym judge.ensures ∙ c.in-Refuse.is) c.refused.ensures
+
+pub list-requires : goal.list-requires
+list-requires c =
+    let enum-told2 = c.enum_told-in-Fine-1 in
+    let survey = c.survey-survey in
+    let enum_told = c.enum_told-1 in
+    let shared-slice-known = c.shared_slice_known-1 in
+    let a = c.args in
+    let st = stores a.project.now a.own.now in
+    let fine = sym c.judge-judged.ensures ∙ enum_told.given.1 in
+    (asked-room a.query fine, survey-notes st survey.ensures (λ i. (shared-slice-known.given i).fits) enum-told2.given.1)
+
+pub returns-in-Refuse-verdict : goal.returns-in-Refuse-verdict
+returns-in-Refuse-verdict c =
+    let survey = c.survey-survey in
+    let enum_told = c.enum_told-1 in
+    site-refused _ _ _ _ (sym c.judge-judged.ensures ∙ enum_told.given.1) survey.ensures c.in-Refuse-verdict.is c.refused-in-Refuse-verdict.ensures
+
+pub returns-in-Fine : goal.returns-in-Fine
+returns-in-Fine c =
+    let enum-told2 = c.enum_told-in-Fine-1 in
+    let enum_told = c.enum_told-1 in
+    let judge = c.judge-judged in
+    trace-listed _ _ _ _ (sym judge.ensures ∙ enum_told.given.1) c.survey-survey.ensures enum-told2.given.1 c.list.ensures

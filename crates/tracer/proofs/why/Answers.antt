@@ -1,0 +1,33 @@
+-- Refused as the trace is, which has room enough; otherwise the explanation.
+use mathlib.Core.Path.{sym, ◌∙◌}
+use borrow.Author.Rules.{rules}
+use Rattle.site.proofs.StartLaws.{survey-notes}
+use Rattle.site.specs.Stores.{stores}
+use Rattle.tracer.proofs.WalkingLaws.{why-asked, why-refused, why-explained}
+use Rattle.tracer.proofs.why.Goals as goal
+
+pub returns-in-Refuse : goal.returns-in-Refuse
+returns-in-Refuse c =
+    let judge = c.judge-judged in
+    why-asked _ _ _ _ (sym judge.ensures ∙ c.in-Refuse.is)
+
+pub returns-in-Refuse-verdict : goal.returns-in-Refuse-verdict
+returns-in-Refuse-verdict c =
+    let survey = c.survey-survey in
+    let enum_told = c.enum_told-1 in
+    let judge = c.judge-judged in
+    why-refused _ _ _ _ (sym judge.ensures ∙ enum_told.given.1) survey.ensures c.in-Refuse-verdict.is
+
+pub explain-requires : goal.explain-requires
+explain-requires c =
+    let survey = c.survey-survey in
+    let shared-slice-known = c.shared_slice_known-1 in
+    let a = c.args in
+    survey-notes (stores a.project.now a.own.now) survey.ensures (λ i. (shared-slice-known.given i).fits) c.in_default-verdict.is
+
+pub returns : goal.returns
+returns c =
+    let enum-told2 = c.enum_told-in_default-verdict-1 in
+    let survey = c.survey-survey in
+    let enum_told = c.enum_told-1 in
+    why-explained _ _ _ _ (sym c.judge-judged.ensures ∙ enum_told.given.1) survey.ensures enum-told2.given.1 c.explain.ensures
