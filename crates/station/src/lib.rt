@@ -1,4 +1,6 @@
 // A station that listens to one TP1 line and keeps the total of one group: what a frame is to it, and what it adds.
+#![tactic(auto)]
+
 ghost use Rattle.std.specs.Prelude.{◌≡◌};
 ghost use Rattle.station.specs.Taking.{telegram_of, telegram_by, telegram_in, summed_by, taken_by};
 
