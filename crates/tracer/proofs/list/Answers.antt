@@ -13,6 +13,6 @@ returns c =
     let letting = c.letting-passing in
     let a = c.args in
     let st = stores a.project.now a.own.now in
-    let small : a.query.start < 256 = omega (arith, c.well-formed.0) in
+    let small : a.query.start < 256 = omega (arith, c.well_formed.0) in
     let marks = noted-letting c.requires.1 st a.query.kind a.query.destination letting.ensures in
     listed_by st a.site.now a.query small marks.downward marks.upward spread.ensures c.list-lines.ensures

@@ -13,24 +13,18 @@ returns-in-Refuse c =
 
 pub list-requires : goal.list-requires
 list-requires c =
-    let enum-told2 = c.enum_told-in-Fine-1 in
     let survey = c.survey-survey in
-    let enum_told = c.enum_told-1 in
-    let shared-slice-known = c.shared_slice_known-1 in
     let a = c.args in
     let st = stores a.project.now a.own.now in
-    let fine = sym c.judge-judged.ensures ∙ enum_told.given.1 in
-    (asked-room a.query fine, survey-notes st survey.ensures (λ i. (shared-slice-known.given i).fits) enum-told2.given.1)
+    let fine = sym c.judge-judged.ensures ∙ c.in_default.is in
+    (asked-room a.query fine, survey-notes st survey.ensures (λ i. (c.type_inv.site i).fits) c.in-Fine.is)
 
 pub returns-in-Refuse-verdict : goal.returns-in-Refuse-verdict
 returns-in-Refuse-verdict c =
     let survey = c.survey-survey in
-    let enum_told = c.enum_told-1 in
-    site-refused _ _ _ _ (sym c.judge-judged.ensures ∙ enum_told.given.1) survey.ensures c.in-Refuse-verdict.is c.refused-in-Refuse-verdict.ensures
+    site-refused _ _ _ _ (sym c.judge-judged.ensures ∙ c.in_default.is) survey.ensures c.in-Refuse-verdict.is c.refused-in-Refuse-verdict.ensures
 
 pub returns-in-Fine : goal.returns-in-Fine
 returns-in-Fine c =
-    let enum-told2 = c.enum_told-in-Fine-1 in
-    let enum_told = c.enum_told-1 in
     let judge = c.judge-judged in
-    trace-listed _ _ _ _ (sym judge.ensures ∙ enum_told.given.1) c.survey-survey.ensures enum-told2.given.1 c.list.ensures
+    trace-listed _ _ _ _ (sym judge.ensures ∙ c.in_default.is) c.survey-survey.ensures c.in-Fine.is c.list.ensures

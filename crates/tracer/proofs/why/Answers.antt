@@ -14,20 +14,16 @@ returns-in-Refuse c =
 pub returns-in-Refuse-verdict : goal.returns-in-Refuse-verdict
 returns-in-Refuse-verdict c =
     let survey = c.survey-survey in
-    let enum_told = c.enum_told-1 in
     let judge = c.judge-judged in
-    why-refused _ _ _ _ (sym judge.ensures ∙ enum_told.given.1) survey.ensures c.in-Refuse-verdict.is
+    why-refused _ _ _ _ (sym judge.ensures ∙ c.in_default.is) survey.ensures c.in-Refuse-verdict.is
 
 pub explain-requires : goal.explain-requires
 explain-requires c =
     let survey = c.survey-survey in
-    let shared-slice-known = c.shared_slice_known-1 in
     let a = c.args in
-    survey-notes (stores a.project.now a.own.now) survey.ensures (λ i. (shared-slice-known.given i).fits) c.in_default-verdict.is
+    survey-notes (stores a.project.now a.own.now) survey.ensures (λ i. (c.type_inv.site i).fits) c.in_default-verdict.is
 
 pub returns : goal.returns
 returns c =
-    let enum-told2 = c.enum_told-in_default-verdict-1 in
     let survey = c.survey-survey in
-    let enum_told = c.enum_told-1 in
-    why-explained _ _ _ _ (sym c.judge-judged.ensures ∙ enum_told.given.1) survey.ensures enum-told2.given.1 c.explain.ensures
+    why-explained _ _ _ _ (sym c.judge-judged.ensures ∙ c.in_default.is) survey.ensures c.in_default-verdict.is c.explain.ensures

@@ -24,7 +24,7 @@ loop-line-smaller c = omega arith
 pub loop-line-preserved : goal.loop-line-preserved
 loop-line-preserved c =
     let put = c.list_line-listed in
-    listing-more c.requires c.loop-line.invariant c.loop-line-test.true put.ensures.0 put.ensures.1 put.auto.1.1.1.1.0
+    listing-more c.requires c.loop-line.invariant c.loop-line-test.true put.ensures.0 put.ensures.1 put.auto.room
 
 pub shape_of-room : goal.shape_of-room
 shape_of-room c = c.loop-line.invariant.same

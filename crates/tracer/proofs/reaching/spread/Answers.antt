@@ -38,8 +38,8 @@ loop-line-preserved c =
     let a = c.args in
     spreading-more a.down.now a.up.now c.loop-line.invariant c.loop-line-test.true c.reach_of-reached.ensures
     (elim c.if-reached-gt1.branch [
-      then-reached-gt1 w ↦ rw (lt-ltb 1 _ w.if-reached-gt1.true) w.LOOK-is1
-    | else-reached-gt1 w ↦ rw (le-ltb 1 _ w.if-reached-gt1.false) (omega (arith, w.LOOK-is1))
+      then-reached-gt1 w ↦ rw (lt-ltb 1 _ w.if-reached-gt1.true) w.forwardings-is
+    | else-reached-gt1 w ↦ rw (le-ltb 1 _ w.if-reached-gt1.false) (omega (arith, w.forwardings-is))
     ])
 
 pub returns : goal.returns

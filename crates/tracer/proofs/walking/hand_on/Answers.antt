@@ -9,19 +9,17 @@ use Rattle.tracer.proofs.walking.hand_on.Goals as goal
 pub returns-then-does_pass : goal.returns-then-does_pass
 returns-then-does_pass c =
     let why-not = c.why_not-reason in
-    let walk2 = c.walk-in-Going-1 in
     let a = c.args in
     let st = stores a.project.now a.own.now in
     let reason = why-not.ensures ∙ noted-passage c.requires st a.query.kind a.query.destination a.direction a.coupler _ c.ranges.coupler.fits in
-    hand-goes _ _ _ _ _ walk2.given.1 reason c.does_pass.ensures c.if-does_pass.true c.hopped.ensures
+    hand-goes _ _ a.query _ _ c.in-Going.is reason c.does_pass.ensures c.if-does_pass.true c.hopped.ensures
 
 pub returns-in-Stopped : goal.returns-in-Stopped
-returns-in-Stopped c = hand-stopped _ _ _ _ _ c.in-Stopped.is
+returns-in-Stopped c = hand-stopped _ _ c.args.query _ _ c.in-Stopped.is
 
 pub returns-else-does_pass : goal.returns-else-does_pass
 returns-else-does_pass c =
-    let walk2 = c.walk-in-Going-1 in
     let a = c.args in
     let st = stores a.project.now a.own.now in
     let reason = c.why_not-reason.ensures ∙ noted-passage c.requires st a.query.kind a.query.destination a.direction a.coupler _ c.ranges.coupler.fits in
-    hand-stops _ _ _ _ _ walk2.given.1 reason c.does_pass.ensures c.if-does_pass.false
+    hand-stops _ _ a.query _ _ c.in-Going.is reason c.does_pass.ensures c.if-does_pass.false
