@@ -1,4 +1,6 @@
 // The surface for C and Rust: numbers and byte slices only. include/klumdray.h documents each call.
+#![tactic(auto)]
+
 mod block;
 mod counters;
 mod litres;

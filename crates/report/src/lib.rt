@@ -1,4 +1,6 @@
 // The report of a trace: what the program writes for what it reads.
+#![tactic(auto)]
+
 mod text;
 
 ghost use Rattle.std.specs.Prelude.{◌≤◌, ◌++◌, ◌≡◌, length};

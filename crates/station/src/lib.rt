@@ -19,7 +19,7 @@ pub enum Telegram {
 }
 
 // What the frame was, and the total afterwards.
-#[derive(Drop)]
+#[derive(Clone, Copy)]
 pub struct Tally {
     pub telegram: Telegram,
     pub total: i64,

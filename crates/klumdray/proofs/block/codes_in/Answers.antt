@@ -1,0 +1,16 @@
+-- The eight octets, as `octet` hands them out.
+use borrow.Author.Rules.{rules}
+use Rattle.klumdray.proofs.block.codes_in.Goals as goal
+
+pub returns : goal.returns
+returns c =
+    rw (
+      c.octet.ensures,
+      c.octet-2.ensures,
+      c.octet-3.ensures,
+      c.octet-4.ensures,
+      c.octet-5.ensures,
+      c.octet-6.ensures,
+      c.octet-7.ensures,
+      c.octet-8.ensures,
+    )

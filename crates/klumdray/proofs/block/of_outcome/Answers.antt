@@ -1,0 +1,8 @@
+-- The weights of the parts are apart, so that their sum fits; it is the definition's.
+use borrow.Author.Rules.{rules}
+use Rattle.klumdray.specs.Block.{outcome_number}
+use Rattle.klumdray.proofs.block.of_outcome.Goals as goal
+
+pub returns : goal.returns
+unfolding outcome_number
+returns c = rw (c.of_acknowledgement-answer.ensures, c.flag-own.ensures)

@@ -1,0 +1,6 @@
+-- The two octets, as `octet` hands them out.
+use borrow.Author.Rules.{rules}
+use Rattle.klumdray.proofs.block.setting_in.Goals as goal
+
+pub returns : goal.returns
+returns c = rw (c.octet.ensures, c.octet-2.ensures)

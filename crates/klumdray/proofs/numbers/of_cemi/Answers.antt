@@ -1,0 +1,9 @@
+-- Each arm knows its case of the answer.
+use borrow.Author.Rules.{rules}
+use Rattle.klumdray.proofs.numbers.of_cemi.Goals as goal
+
+pub returns-in-Frame : goal.returns-in-Frame
+returns-in-Frame c = rw c.in-Frame.is c.of_message.ensures
+
+pub returns-in-Refused : goal.returns-in-Refused
+returns-in-Refused c = rw c.in-Refused.is c.number.ensures
