@@ -134,6 +134,8 @@ use Rattle.coupler.proofs.nothing_remembered.Kinds as coupler-nothing-remembered
 use Rattle.coupler.proofs.nothing_remembered.Reads as coupler-nothing-remembered-reads
 use Rattle.coupler.proofs.step.Kinds as coupler-step-kinds
 use Rattle.coupler.proofs.step.Reads as coupler-step-reads
+use Rattle.coupler.proofs.step_in_place.Kinds as coupler-step-in-place-kinds
+use Rattle.coupler.proofs.step_in_place.Reads as coupler-step-in-place-reads
 use Rattle.klumdray.proofs.klumdray_check_octet.Kinds as klumdray-check-octet-kinds
 use Rattle.klumdray.proofs.klumdray_check_octet.Reads as klumdray-check-octet-reads
 use Rattle.klumdray.proofs.klumdray_tp1_read.Kinds as klumdray-tp1-read-kinds
@@ -421,6 +423,9 @@ coupler-nothing-remembered-stated = record { determines = λ κs args r₁ r₂ 
 
 pub coupler-step-stated : Stated coupler-step-kinds.ps coupler-step-kinds.r coupler-step-reads.Pre coupler-step-reads.Post (λ κs a. coupler-step-reads.ensures κs a tt)
 coupler-step-stated = record { determines = λ κs args r₁ r₂ w₁ w₂ x y. let e = did-one x y in ((λ i. record { outcome = e.0 i; memory = e.1.0 i }), λ i. (tt, (tt, (tt, (tt, (tt, (e.1.1 i, tt))))))); free = λ κs args. tt; whole = λ κs args r e w. refl }
+
+pub coupler-step-in-place-stated : Stated coupler-step-in-place-kinds.ps coupler-step-in-place-kinds.r coupler-step-in-place-reads.Pre coupler-step-in-place-reads.Post (λ κs a. coupler-step-in-place-reads.ensures κs a tt)
+coupler-step-in-place-stated = record { determines = λ κs args r₁ r₂ w₁ w₂ x y. let e = did-one x y in (e.0, λ i. (e.1.0 i, (tt, (tt, (tt, (tt, (e.1.1 i, tt))))))); free = λ κs args. tt; whole = λ κs args r e w. refl }
 
 -- site
 

@@ -1,6 +1,6 @@
--- The step lent its memory is proved by a walk of its code, so that the toolchain reads no claim off its source: the claim is written
--- here, shown to be the whole `ensures` of the source, and determines outcome, memory and room. Nothing is asked of the caller: its `requires`
--- is the empty one.
+-- The step lent its memory: its claim written out here, shown to be the whole `ensures` of the source, and determining outcome, memory and
+-- room. Nothing is asked of the caller: its `requires` is the empty one. The claim that the toolchain reads off its source has its law in
+-- Determined.
 use mathlib.Core.Path.{◌≡◌, refl}
 use contract.Lifetimes.{Lfts}
 use contract.Monad.{fact}
@@ -17,7 +17,7 @@ Claim κs a r e =
     a.0.now a.1.1.1.1.0.now a.1.1.1.1.1.0.now r e.0.now e.1.1.1.1.1.0.now
 
 pub whole : (κs : Lfts 4) (a : ArgsD in_place.signature κs) (r : ResD in_place.signature κs) (e : AtExit in_place.ended κs) (w : World)
-    → (in_place.clauses w.𝓛 w.𝓜.mem w.𝓡.run κs a).ensures tt r e ≡ fact w.𝓤 (Claim κs a r e)
+    → (in_place.clauses w.𝓛 w.𝓜.mem w.𝓡.returns κs a).ensures tt r e ≡ fact w.𝓤 (Claim κs a r e)
 whole κs a r e w = refl
 
 pub determines : (κs : Lfts 4) (a : ArgsD in_place.signature κs) (r₁ r₂ : ResD in_place.signature κs) (w₁ w₂ : Lasts in_place.ended κs a)
@@ -27,5 +27,5 @@ determines κs a r₁ r₂ w₁ w₂ x y =
     (e.0, λ i. (e.1.0 i, (tt, (tt, (tt, (tt, (e.1.1 i, tt)))))))
 
 -- nothing is asked of the caller
-pub free : (κs : Lfts 4) (a : ArgsD in_place.signature κs) (w : World) → (in_place.clauses w.𝓛 w.𝓜.mem w.𝓡.run κs a).requires tt ≡ emp w.𝓤
+pub free : (κs : Lfts 4) (a : ArgsD in_place.signature κs) (w : World) → (in_place.clauses w.𝓛 w.𝓜.mem w.𝓡.returns κs a).requires tt ≡ emp w.𝓤
 free κs a w = refl
