@@ -15,7 +15,7 @@ pub struct Channel {
     pub send: u8,
 }
 
-#[derive(Drop)]
+#[derive(Clone, Copy)]
 pub struct Table {
     pub channels: [Channel; CHANNELS],
 }
