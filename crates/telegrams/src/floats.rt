@@ -1,12 +1,13 @@
 // The two-octet float, read and written.
 use crate::text;
 use leak::{Coded, Value};
+use std::io;
 
-pub(crate) fn run_float(given: &[u8]) {
+pub(crate) fn run_float(out: &impl Print, given: &[u8]) -> io::Result<()> {
     let value = leak::read_octets(given);
     match value {
-        Value::Hundredths(hundredths) => text::put_signed(b"hundredths ", hundredths as i64),
-        Value::Refused(refusal) => text::put_refused(refusal.number()),
+        Value::Hundredths(hundredths) => text::put_signed(out, b"hundredths ", hundredths as i64),
+        Value::Refused(refusal) => text::put_refused(out, refusal.number()),
     }
 }
 
@@ -28,12 +29,12 @@ fn number_in(block: &[u8]) -> i64 {
     signed_of(first * 281474976710656 + second * 4294967296 + third * 65536 + fourth)
 }
 
-pub(crate) fn run_hundredths(given: &[u8]) {
+pub(crate) fn run_hundredths(out: &impl Print, given: &[u8]) -> io::Result<()> {
     match leak::write(number_in(given)) {
         Coded::Code(code) => {
-            io::write_all(1, b"code ");
-            text::put_word(code);
+            out.write_all(b"code ")?;
+            text::put_word(out, code)
         }
-        Coded::Refused(refusal) => text::put_refused(refusal.number()),
+        Coded::Refused(refusal) => text::put_refused(out, refusal.number()),
     }
 }

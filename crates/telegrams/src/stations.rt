@@ -1,26 +1,21 @@
 // The station: one group, its total, and one frame after the other.
 use crate::{lists, text};
 use station::{Tally, Telegram};
+use std::io;
 
-fn put_tally(tally: Tally) {
+fn put_tally(out: &impl Print, tally: Tally) -> io::Result<()> {
     let telegram = tally.telegram;
     match telegram {
         Telegram::Increment(code) => {
-            io::write_all(1, b"counted ");
-            text::put_word(code);
+            out.write_all(b"counted ")?;
+            text::put_word(out, code)?;
         }
-        Telegram::Repetition => {
-            io::write_all(1, b"repetition");
-        }
-        Telegram::OtherGroup => {
-            io::write_all(1, b"other group");
-        }
-        Telegram::NoIncrement => {
-            io::write_all(1, b"no increment");
-        }
-        Telegram::Refused(refusal) => text::put_refused(refusal.number()),
+        Telegram::Repetition => out.write_all(b"repetition")?,
+        Telegram::OtherGroup => out.write_all(b"other group")?,
+        Telegram::NoIncrement => out.write_all(b"no increment")?,
+        Telegram::Refused(refusal) => text::put_refused(out, refusal.number())?,
     }
-    text::put_signed(b" total ", tally.total);
+    text::put_signed(out, b" total ", tally.total)
 }
 
 // Where the frame begins that is remembered afterwards: "nothing remembered changes" on a refusal.
@@ -33,16 +28,23 @@ fn kept_after(tally: Tally, kept: usize, at: usize) -> usize {
 }
 
 // One frame, written if it is the row's last.
-fn run_frame(total: i64, group: u16, remembered: &[u8], given: &[u8], last: bool) -> Tally {
+fn run_frame(
+    out: &impl Print,
+    total: i64,
+    group: u16,
+    remembered: &[u8],
+    given: &[u8],
+    last: bool,
+) -> io::Result<Tally> {
     let tally = station::take(total, group, remembered, given);
     if last {
-        put_tally(tally);
+        put_tally(out, tally)?;
     }
-    tally
+    Ok(tally)
 }
 
 // The frame remembered is one of the list's; from the list's end on there is none.
-pub(crate) fn run_station(given_group: &[u8], frames: &[u8]) {
+pub(crate) fn run_station(out: &impl Print, given_group: &[u8], frames: &[u8]) -> io::Result<()> {
     let group = octets::word_at(given_group, 0);
     let mut total: i64 = 0;
     let mut kept = frames.len();
@@ -52,9 +54,10 @@ pub(crate) fn run_station(given_group: &[u8], frames: &[u8]) {
         let size = lists::end(left);
         let last = size == left.len();
         let remembered = lists::first(lists::from(frames, kept));
-        let tally = run_frame(total, group, remembered, lists::first(left), last);
+        let tally = run_frame(out, total, group, remembered, lists::first(left), last)?;
         total = tally.total;
         kept = kept_after(tally, kept, at);
         at += size;
     }
+    Ok(())
 }

@@ -1,6 +1,7 @@
 // The coupler's step: one coupler, and one frame after the other.
 use crate::{lists, text};
 use coupler::{Acknowledgement, Memory, Outcome};
+use std::io;
 
 fn codes_of(setting: &[u8]) -> [[u8; 4]; 2] {
     let down = [
@@ -40,36 +41,33 @@ fn octets_of(table: &[u8; 8192], is_there: bool) -> &[u8] {
 }
 
 // All that an outcome says, on a refusal too: "its number, none, not, 0".
-fn put_outcome(outcome: Outcome, room: &[u8]) {
+fn put_outcome(out: &impl Print, outcome: Outcome, room: &[u8]) -> io::Result<()> {
     if 0 < outcome.number {
-        text::put_refused(outcome.number);
-        io::write_all(1, b" ");
+        text::put_refused(out, outcome.number)?;
+        out.write_all(b" ")?;
     }
     let acknowledgement = outcome.acknowledgement;
     match acknowledgement {
-        Acknowledgement::Acknowledged => {
-            io::write_all(1, b"acknowledged");
-        }
-        Acknowledgement::Silence => {
-            io::write_all(1, b"silent");
-        }
+        Acknowledgement::Acknowledged => out.write_all(b"acknowledged")?,
+        Acknowledgement::Silence => out.write_all(b"silent")?,
     }
-    text::put_which(outcome.own, b" own sends", b" not-own sends");
+    text::put_which(out, outcome.own, b" own sends", b" not-own sends")?;
     if outcome.forwarded == 0 {
-        io::write_all(1, b" nothing");
+        out.write_all(b" nothing")
     } else {
-        text::put_octets(lists::front(room, outcome.forwarded));
+        text::put_octets(out, lists::front(room, outcome.forwarded))
     }
 }
 
 // One step, written if it is the row's last.
 fn run_frame(
+    out: &impl Print,
     memory: Memory,
     given_setting: &[u8],
     table: &[u8],
     given: &[u8],
     last: bool,
-) -> Memory {
+) -> io::Result<Memory> {
     let codes = codes_of(given_setting);
     let line = octets::octet(given_setting, 0);
     let side = octets::octet(given_setting, 9);
@@ -79,27 +77,33 @@ fn run_frame(
     let stepped = coupler::step(memory, setting, codes, table, given, &mut room);
     if last {
         let outcome = stepped.outcome;
-        put_outcome(outcome, &room);
+        put_outcome(out, outcome, &room)?;
     }
-    stepped.memory
+    Ok(stepped.memory)
 }
 
-fn run_frames(setting: &[u8], table: &[u8], frames: &[u8]) {
+fn run_frames(out: &impl Print, setting: &[u8], table: &[u8], frames: &[u8]) -> io::Result<()> {
     let mut memory = coupler::nothing_remembered();
     let mut at = 0;
     while at < frames.len() {
         let left = &frames[at..];
         let size = lists::end(left);
         let last = size == left.len();
-        memory = run_frame(memory, setting, table, lists::first(left), last);
+        memory = run_frame(out, memory, setting, table, lists::first(left), last)?;
         at += size;
     }
+    Ok(())
 }
 
-pub(crate) fn run_steps(setting: &[u8], behind: &[u8]) {
+pub(crate) fn run_steps(out: &impl Print, setting: &[u8], behind: &[u8]) -> io::Result<()> {
     let groups = lists::first(behind);
     let mut table = [0u8; 8192];
     put_groups(groups, &mut table);
     let is_there = 0 < groups.len();
-    run_frames(setting, octets_of(&table, is_there), lists::rest(behind));
+    run_frames(
+        out,
+        setting,
+        octets_of(&table, is_there),
+        lists::rest(behind),
+    )
 }

@@ -1,5 +1,6 @@
 // What is written, piece by piece, to standard output.
 use frame::Meaning;
+use std::io;
 
 fn digit(number: u8) -> u8 {
     let low = number % 16;
@@ -10,32 +11,33 @@ fn digit(number: u8) -> u8 {
     }
 }
 
-fn put_octet(octet: u8) {
+fn put_octet(out: &impl Print, octet: u8) -> io::Result<()> {
     let text = [digit(octet / 16), digit(octet)];
-    io::write_all(1, &text);
+    out.write_all(&text)
 }
 
-pub(crate) fn put_word(number: u16) {
-    put_octet(octets::high_octet(number));
-    put_octet(octets::low_octet(number));
+pub(crate) fn put_word(out: &impl Print, number: u16) -> io::Result<()> {
+    put_octet(out, octets::high_octet(number))?;
+    put_octet(out, octets::low_octet(number))
 }
 
-fn put_spaced(octet: u8) {
-    io::write_all(1, b" ");
-    put_octet(octet);
+fn put_spaced(out: &impl Print, octet: u8) -> io::Result<()> {
+    out.write_all(b" ")?;
+    put_octet(out, octet)
 }
 
-pub(crate) fn put_octets(list: &[u8]) {
+pub(crate) fn put_octets(out: &impl Print, list: &[u8]) -> io::Result<()> {
     let mut at = 0;
     while at < list.len() {
-        put_spaced(list[at]);
+        put_spaced(out, list[at])?;
         at += 1;
     }
+    Ok(())
 }
 
-pub(crate) fn put_number(word: &[u8], number: u8) {
-    io::write_all(1, word);
-    io::print_decimal(1, number as u64);
+pub(crate) fn put_number(out: &impl Print, word: &[u8], number: u8) -> io::Result<()> {
+    out.write_all(word)?;
+    out.print(number)
 }
 
 // How far a number is from zero; below it from -1 on, so that the smallest number has a size too.
@@ -48,36 +50,36 @@ fn size_of(number: i64) -> u64 {
     }
 }
 
-pub(crate) fn put_signed(word: &[u8], number: i64) {
-    io::write_all(1, word);
+pub(crate) fn put_signed(out: &impl Print, word: &[u8], number: i64) -> io::Result<()> {
+    out.write_all(word)?;
     if number < 0 {
-        io::write_all(1, b"-");
+        out.write_all(b"-")?;
     }
-    io::print_decimal(1, size_of(number));
+    out.print(size_of(number))
 }
 
 // One of two words.
-pub(crate) fn put_which(is: bool, word: &[u8], other: &[u8]) {
+pub(crate) fn put_which(out: &impl Print, is: bool, word: &[u8], other: &[u8]) -> io::Result<()> {
     if is {
-        io::write_all(1, word);
+        out.write_all(word)
     } else {
-        io::write_all(1, other);
+        out.write_all(other)
     }
 }
 
-pub(crate) fn put_refused(number: u8) {
-    put_number(b"refused ", number);
+pub(crate) fn put_refused(out: &impl Print, number: u8) -> io::Result<()> {
+    put_number(out, b"refused ", number)
 }
 
-pub(crate) fn put_frame(meaning: Meaning, payload: &[u8]) {
-    put_which(meaning.extended, b"extended", b"standard");
-    put_which(meaning.first, b" first", b" repeated");
-    put_number(b" priority ", meaning.priority);
-    io::write_all(1, b" source ");
-    put_word(meaning.source);
-    put_which(meaning.group, b" group ", b" individual ");
-    put_word(meaning.destination);
-    put_number(b" count ", meaning.count);
-    io::write_all(1, b" payload");
-    put_octets(payload);
+pub(crate) fn put_frame(out: &impl Print, meaning: Meaning, payload: &[u8]) -> io::Result<()> {
+    put_which(out, meaning.extended, b"extended", b"standard")?;
+    put_which(out, meaning.first, b" first", b" repeated")?;
+    put_number(out, b" priority ", meaning.priority)?;
+    out.write_all(b" source ")?;
+    put_word(out, meaning.source)?;
+    put_which(out, meaning.group, b" group ", b" individual ")?;
+    put_word(out, meaning.destination)?;
+    put_number(out, b" count ", meaning.count)?;
+    out.write_all(b" payload")?;
+    put_octets(out, payload)
 }

@@ -4,85 +4,88 @@ use cemi::{CemiAnswer, Codes, Message};
 use channels::Table;
 use exchange::{Confirmed, Received};
 use frame::Written;
+use std::io;
 
-fn put_sent(octets: &[u8]) {
-    io::write_all(1, b"sends");
-    text::put_octets(octets);
+fn put_sent(out: &impl Print, octets: &[u8]) -> io::Result<()> {
+    out.write_all(b"sends")?;
+    text::put_octets(out, octets)
 }
 
 // What came of a request, and the acknowledgement that the room has.
-fn put_received(answer: Received, given: &[u8], room: &[u8]) {
+fn put_received(out: &impl Print, answer: Received, given: &[u8], room: &[u8]) -> io::Result<()> {
     match answer {
         Received::Delivered(request) => {
-            io::write_all(1, b"delivered ");
+            out.write_all(b"delivered ")?;
             let message = request.message;
             let payload = reads::payload_of(message, exchange::message(answer, given));
-            reads::put_message(message, payload);
-            io::write_all(1, b" ");
-            put_sent(room);
+            reads::put_message(out, message, payload)?;
+            out.write_all(b" ")?;
+            put_sent(out, room)
         }
         Received::Again => {
-            io::write_all(1, b"again ");
-            put_sent(room);
+            out.write_all(b"again ")?;
+            put_sent(out, room)
         }
-        Received::Refused(refusal) => text::put_refused(refusal.number()),
+        Received::Refused(refusal) => text::put_refused(out, refusal.number()),
     }
 }
 
-fn run_receive(table: Table, given: &[u8]) -> Table {
+fn run_receive(out: &impl Print, table: Table, given: &[u8]) -> io::Result<Table> {
     let mut room = [0u8; 10];
     let taken = exchange::receive(table, given, &mut room);
     let answer = taken.answer;
-    put_received(answer, given, &room);
-    taken.table
+    put_received(out, answer, given, &room)?;
+    Ok(taken.table)
 }
 
-fn send_message(table: Table, channel: u8, message: Message, payload: &[u8]) {
+fn send_message(
+    out: &impl Print,
+    table: Table,
+    channel: u8,
+    message: Message,
+    payload: &[u8],
+) -> io::Result<()> {
     let mut room = [0u8; 273];
     let written = exchange::send(table, channel, message, payload, &mut room);
     match written {
-        Written::Put(size) => put_sent(lists::front(&room, size)),
-        Written::Refused(refusal) => text::put_refused(refusal.number()),
+        Written::Put(size) => put_sent(out, lists::front(&room, size)),
+        Written::Refused(refusal) => text::put_refused(out, refusal.number()),
     }
 }
 
 // The channel, and behind it the message.
-fn run_send(table: Table, given: &[u8]) -> Table {
+fn run_send(out: &impl Print, table: Table, given: &[u8]) -> io::Result<Table> {
     let octets = lists::behind_first(given);
     let answer = cemi::read(Codes::All, octets);
     match answer {
         CemiAnswer::Frame(message) => {
             let payload = cemi::payload(answer, octets);
-            send_message(table, octets::octet(given, 0), message, payload);
+            send_message(out, table, octets::octet(given, 0), message, payload)?;
         }
-        CemiAnswer::Refused(refusal) => text::put_refused(refusal.number()),
+        CemiAnswer::Refused(refusal) => text::put_refused(out, refusal.number())?,
     }
-    table
+    Ok(table)
 }
 
-fn run_confirm(table: Table, given: &[u8]) -> Table {
+fn run_confirm(out: &impl Print, table: Table, given: &[u8]) -> io::Result<Table> {
     let settled = exchange::confirm(table, given);
     let answer = settled.answer;
     match answer {
-        Confirmed::Raised => {
-            io::write_all(1, b"raised");
-        }
-        Confirmed::Kept => {
-            io::write_all(1, b"kept");
-        }
-        Confirmed::Refused(refusal) => text::put_refused(refusal.number()),
+        Confirmed::Raised => out.write_all(b"raised")?,
+        Confirmed::Kept => out.write_all(b"kept")?,
+        Confirmed::Refused(refusal) => text::put_refused(out, refusal.number())?,
     }
-    settled.table
+    Ok(settled.table)
 }
 
-fn run_call(table: Table, call: &[u8]) -> Table {
+fn run_call(out: &impl Print, table: Table, call: &[u8]) -> io::Result<Table> {
     let letter = octets::octet(call, 0);
     let given = lists::behind_first(call);
     match letter {
-        b'r' => run_receive(table, given),
-        b's' => run_send(table, given),
-        b'c' => run_confirm(table, given),
-        _ => table,
+        b'r' => run_receive(out, table, given),
+        b's' => run_send(out, table, given),
+        b'c' => run_confirm(out, table, given),
+        _ => Ok(table),
     }
 }
 
@@ -97,19 +100,21 @@ fn open_channels(numbers: &[u8]) -> Table {
 }
 
 // What stands between two calls, as in the row.
-fn put_separator(at: usize) {
+fn put_separator(out: &impl Print, at: usize) -> io::Result<()> {
     if 0 < at {
-        io::write_all(1, b" > ");
+        out.write_all(b" > ")?;
     }
+    Ok(())
 }
 
-pub(crate) fn run_tunnel(numbers: &[u8], calls: &[u8]) {
+pub(crate) fn run_tunnel(out: &impl Print, numbers: &[u8], calls: &[u8]) -> io::Result<()> {
     let mut table = open_channels(numbers);
     let mut at = 0;
     while at < calls.len() {
-        put_separator(at);
+        put_separator(out, at)?;
         let left = &calls[at..];
-        table = run_call(table, lists::first(left));
+        table = run_call(out, table, lists::first(left))?;
         at += lists::end(left);
     }
+    Ok(())
 }

@@ -1,16 +1,37 @@
 // Reads a query and a site, and writes which lines the telegram comes to. More than 3,065 octets are
 // refused, so 4,096 of the input are enough.
-use frame::Written;
+#![tactic(auto)]
 
-fn main() {
-    let mut input = io::buffer();
-    let read = io::read_full(0, &mut input);
+ghost use Rattle.std.specs.Prelude.{◌≤◌, length, IfOk};
+
+use frame::Written;
+use std::io;
+use std::io::Read;
+
+// Reads until the room is full or the input ends, and says how many octets the room then begins with.
+fn read_full(input: &mut impl Read, room: &mut [u8]) -> io::Result<usize>
+    ensures { IfOk result (λ size. size ≤ length room.new) }
+{
+    let mut done = 0;
+    while done < room.len() {
+        let read = input.read(&mut room[done..])?;
+        if read == 0 {
+            break;
+        }
+        done += read;
+    }
+    Ok(done)
+}
+
+fn main(rt: HostRuntime) -> io::Result<()> {
+    let mut input = [0u8; 4096];
+    let read = read_full(&mut rt.stdin(), &mut input)?;
     let mut room = [0u8; 8192];
     let written = report::report(&input[..read], &mut room);
     if let Written::Put(size) = written {
         if size <= 8192 {
-            let text = io::count(size as isize, &room);
-            io::write_all(1, &room[..text]);
+            rt.write_all(&room[..size])?;
         }
     }
+    Ok(())
 }
