@@ -1,6 +1,8 @@
 """What the C header, the Rust bindings and the emulated library say alike: the refusals, from the table in
 crates/frame/specs/Refusals.antt, and the calls, as include/klumdray.h declares them, with the checked form
-of each that writes. tools/make-surface writes it, tools/check-surface compares."""
+of each that writes. And the crate klumdray_c, which is compiled for them: for each public call of the crate
+klumdray an export with its name, its parameters and its clauses, that does nothing but call it.
+tools/make-surface writes all this, tools/check-surface compares."""
 
 import re
 import textwrap
@@ -9,7 +11,8 @@ from collections import namedtuple
 from sources import ROOT
 
 TABLE = ROOT / "crates" / "frame" / "specs" / "Refusals.antt"
-EXPORTS = ROOT / "crates" / "klumdray" / "src" / "lib.rt"
+LIBRARY = ROOT / "crates" / "klumdray" / "src" / "lib.rt"
+EXPORTS = ROOT / "crates" / "klumdray_c" / "src" / "lib.rt"
 HEADER = ROOT / "include" / "klumdray.h"
 CONSTANTS = ROOT / "rust" / "klumdray" / "src" / "refusal.rs"
 EXTERN = ROOT / "rust" / "klumdray" / "src" / "raw.rs"
@@ -49,10 +52,17 @@ ACCEPTED, NO_NUMBER = "not a refusal", "not a number of these calls"
 
 ROW = re.compile(r"^-- (.*)\nnumber (\w+) = (\d+)$", re.M)
 NUMBERED = re.compile(r"^number .*= ", re.M)
-LAST = re.compile(r"^lastNumber = (\d+)$", re.M)
+LAST = re.compile(r"^last_number = (\d+)$", re.M)
 DECLARED = re.compile(r"^(uint\d+_t) (klumdray_\w+)\(([^()]*)\);$", re.M)
 PARAMETER = re.compile(r"(const uint8_t \*|uint8_t \*|\w+ )(\w+)")
 EXPORTED = re.compile(r'^pub extern "C" fn (klumdray_\w+)(?:<[^>]*>)?\(([^()]*)\) -> (\w+)', re.M)
+
+# A public call of the crate klumdray: name, lifetimes, parameters, answer, and its clauses, a line each.
+PROVED = re.compile(r"^pub fn (klumdray_\w+)(<[^>]*>)?\(([^()]*)\) -> (\w+)\n((?: {4}(?:requires|ensures)\b.*\n)*)\{$", re.M)
+PUBLIC = re.compile(r"^pub\b.*\bfn ", re.M)
+GHOST = re.compile(r"^ghost use .*;\n", re.M)
+# What a line of a crate's source holds.
+WIDTH = 100
 
 # The types of numbers in the crate and in C; one with a sign has 64 bits.
 NUMBERS = {f"u{width}": f"uint{width}_t" for width in (8, 16, 32, 64)} | {"i64": "int64_t"}
@@ -60,7 +70,7 @@ RUST = {"const uint8_t *": "*const u8", "uint8_t *": "*mut u8"} | {c: number for
 
 
 def refusals():
-    """The rows of the table, which rise from 1 to `lastNumber`; a number between may have none."""
+    """The rows of the table, which rise from 1 to `last_number`; a number between may have none."""
     text = TABLE.read_text()
     rows = [Refusal(int(number), name, words) for words, name, number in ROW.findall(text)]
     last = [int(number) for number in LAST.findall(text)]
@@ -68,7 +78,7 @@ def refusals():
     rises = numbers == sorted(set(numbers)) and numbers[:1] == [1] and numbers[-1:] == last
     # A row without words would pass for a number without a row.
     if not rises or len(rows) != len(NUMBERED.findall(text)):
-        raise SystemExit(f"{TABLE.relative_to(ROOT)}: its rows do not rise from 1 to lastNumber, words above each")
+        raise SystemExit(f"{TABLE.relative_to(ROOT)}: its rows do not rise from 1 to last_number, words above each")
     return rows
 
 
@@ -91,6 +101,34 @@ def exports():
         kinds = [re.sub(r"&'\w+ ", "&", part.split(":")[1].strip()) for part in inside.split(",") if part.strip()]
         found[name] = (*numbers[answer], *(word for kind in kinds for word in (slices | numbers)[kind]))
     return found
+
+
+def laid_out(indent, begin, words, end):
+    """A list in brackets as `rt fmt` lays it out: in one line, or each of its words in its own."""
+    line = f"{indent}{begin}({', '.join(words)}){end}"
+    if len(line) <= WIDTH:
+        return line
+    return "\n".join([f"{indent}{begin}(", *(f"{indent}    {word}," for word in words), f"{indent}){end}"])
+
+
+def surface_crate():
+    """The source of the crate klumdray_c."""
+    library = LIBRARY.read_text()
+    found = PROVED.findall(library)
+    if len(found) != len(PUBLIC.findall(library)):
+        raise SystemExit(f"{LIBRARY.relative_to(ROOT)}: a public call of another shape")
+    text = """// The calls of the crate klumdray for C: each export has the name, the parameters and the clauses of the proved call,
+// and does nothing but call it. tools/make-surface writes this file.
+#![tactic(auto)]
+
+"""
+    text += "".join(GHOST.findall(library))
+    for name, lifetimes, inside, answer, clauses in found:
+        parameters = [part.strip() for part in inside.split(",") if part.strip()]
+        text += "\n#[unsafe(no_mangle)]\n"
+        text += laid_out("", f'pub extern "C" fn {name}{lifetimes}', parameters, f" -> {answer}") + "\n" + clauses + "{\n"
+        text += laid_out("    ", f"klumdray::{name}", [part.split(":")[0] for part in parameters], "") + "\n}\n"
+    return text
 
 
 def arguments(call):
@@ -211,6 +249,7 @@ def emulated():
 
 # Each file, what stands before the part that is written, the part, and what stands behind it.
 PARTS = [
+    (EXPORTS, "", surface_crate, ""),
     (HEADER, " * number. A refused call has written nothing.\n *\n", header_table, " *\n"),
     (HEADER, "    static const char *const words[] = {\n", header_words, "    };\n"),
     (HEADER, "/* Written by tools/make-surface from the calls above. */\n", checked, "/* The checked forms end here. */\n"),

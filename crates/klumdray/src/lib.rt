@@ -22,15 +22,13 @@ ghost use Rattle.klumdray.specs.Traces.{explanation_number, TracedThrough, why_t
 
 use cemi::Codes;
 
-#[unsafe(no_mangle)]
-pub extern "C" fn klumdray_check_octet(octets: &[u8]) -> u32
+pub fn klumdray_check_octet(octets: &[u8]) -> u32
     ensures { result ≡ check_octet octets.now }
 {
     octets::check_octet(octets) as u32
 }
 
-#[unsafe(no_mangle)]
-pub extern "C" fn klumdray_tp1_read(octets: &[u8]) -> u64
+pub fn klumdray_tp1_read(octets: &[u8]) -> u64
     ensures { result ≡ tp1_answered octets.now }
 {
     let answer = tp1::read(octets);
@@ -38,8 +36,7 @@ pub extern "C" fn klumdray_tp1_read(octets: &[u8]) -> u64
     numbers::of_tp1(answer, payload.len())
 }
 
-#[unsafe(no_mangle)]
-pub extern "C" fn klumdray_tp1_write(
+pub fn klumdray_tp1_write(
     extended: u32,
     first: u32,
     priority: u32,
@@ -72,8 +69,7 @@ pub extern "C" fn klumdray_tp1_write(
     }
 }
 
-#[unsafe(no_mangle)]
-pub extern "C" fn klumdray_cemi_read(octets: &[u8]) -> u64
+pub fn klumdray_cemi_read(octets: &[u8]) -> u64
     ensures { result ≡ cemi_answered octets.now }
 {
     let answer = cemi::read(Codes::All, octets);
@@ -81,8 +77,7 @@ pub extern "C" fn klumdray_cemi_read(octets: &[u8]) -> u64
     numbers::of_cemi(answer, payload.len())
 }
 
-#[unsafe(no_mangle)]
-pub extern "C" fn klumdray_cemi_write(
+pub fn klumdray_cemi_write(
     code: u32,
     error: u32,
     extended: u32,
@@ -119,8 +114,7 @@ pub extern "C" fn klumdray_cemi_write(
     }
 }
 
-#[unsafe(no_mangle)]
-pub extern "C" fn klumdray_routing_read(octets: &[u8]) -> u64
+pub fn klumdray_routing_read(octets: &[u8]) -> u64
     ensures { result ≡ routing_answered octets.now }
 {
     let answer = routing::read(octets);
@@ -128,8 +122,7 @@ pub extern "C" fn klumdray_routing_read(octets: &[u8]) -> u64
     numbers::of_cemi(answer, payload.len())
 }
 
-#[unsafe(no_mangle)]
-pub extern "C" fn klumdray_routing_write(
+pub fn klumdray_routing_write(
     code: u32,
     error: u32,
     extended: u32,
@@ -166,8 +159,7 @@ pub extern "C" fn klumdray_routing_write(
     }
 }
 
-#[unsafe(no_mangle)]
-pub extern "C" fn klumdray_tunnelling_request_read(octets: &[u8]) -> u64
+pub fn klumdray_tunnelling_request_read(octets: &[u8]) -> u64
     ensures { result ≡ request_answered octets.now }
 {
     let answer = tunnelling::read_request(octets);
@@ -177,8 +169,7 @@ pub extern "C" fn klumdray_tunnelling_request_read(octets: &[u8]) -> u64
     numbers::of_cemi(read, payload.len())
 }
 
-#[unsafe(no_mangle)]
-pub extern "C" fn klumdray_tunnelling_request_write(
+pub fn klumdray_tunnelling_request_write(
     channel: u32,
     counter: u32,
     code: u32,
@@ -218,16 +209,14 @@ pub extern "C" fn klumdray_tunnelling_request_write(
     }
 }
 
-#[unsafe(no_mangle)]
-pub extern "C" fn klumdray_tunnelling_ack_read(octets: &[u8]) -> u32
+pub fn klumdray_tunnelling_ack_read(octets: &[u8]) -> u32
     ensures { result ≡ acknowledgement_answered octets.now }
 {
     let answer = tunnelling::read_acknowledgement(octets);
     numbers::of_acknowledged(answer)
 }
 
-#[unsafe(no_mangle)]
-pub extern "C" fn klumdray_tunnelling_ack_write(
+pub fn klumdray_tunnelling_ack_write(
     channel: u32,
     counter: u32,
     status: u32,
@@ -244,12 +233,7 @@ pub extern "C" fn klumdray_tunnelling_ack_write(
     }
 }
 
-#[unsafe(no_mangle)]
-pub extern "C" fn klumdray_tunnelling_receive(
-    channels: &mut [u8],
-    octets: &[u8],
-    room: &mut [u8],
-) -> u64
+pub fn klumdray_tunnelling_receive(channels: &mut [u8], octets: &[u8], room: &mut [u8]) -> u64
     ensures { TookThrough channels.old octets.now room.old result channels.new room.new }
 {
     if counters::are_channels(channels) {
@@ -264,8 +248,7 @@ pub extern "C" fn klumdray_tunnelling_receive(
     }
 }
 
-#[unsafe(no_mangle)]
-pub extern "C" fn klumdray_tunnelling_send(
+pub fn klumdray_tunnelling_send(
     channels: &[u8],
     channel: u32,
     code: u32,
@@ -305,8 +288,7 @@ pub extern "C" fn klumdray_tunnelling_send(
     }
 }
 
-#[unsafe(no_mangle)]
-pub extern "C" fn klumdray_tunnelling_confirm(channels: &mut [u8], octets: &[u8]) -> u32
+pub fn klumdray_tunnelling_confirm(channels: &mut [u8], octets: &[u8]) -> u32
     ensures { ConfirmedThrough channels.old octets.now result channels.new }
 {
     if counters::are_channels(channels) {
@@ -320,8 +302,7 @@ pub extern "C" fn klumdray_tunnelling_confirm(channels: &mut [u8], octets: &[u8]
     }
 }
 
-#[unsafe(no_mangle)]
-pub extern "C" fn klumdray_step(
+pub fn klumdray_step(
     settings: &[u8],
     table: &[u8],
     side: u32,
@@ -349,8 +330,7 @@ pub extern "C" fn klumdray_step(
     }
 }
 
-#[unsafe(no_mangle)]
-pub extern "C" fn klumdray_trace<'a>(
+pub fn klumdray_trace<'a>(
     start: u32,
     kind: u32,
     destination: u32,
@@ -371,8 +351,7 @@ pub extern "C" fn klumdray_trace<'a>(
     }
 }
 
-#[unsafe(no_mangle)]
-pub extern "C" fn klumdray_why<'a>(
+pub fn klumdray_why<'a>(
     start: u32,
     kind: u32,
     destination: u32,
@@ -395,8 +374,7 @@ pub extern "C" fn klumdray_why<'a>(
     }
 }
 
-#[unsafe(no_mangle)]
-pub extern "C" fn klumdray_float_value(code: u32) -> u64
+pub fn klumdray_float_value(code: u32) -> u64
     ensures { result ≡ value_number (value_given code) }
 {
     if code < 65536 {
@@ -406,29 +384,25 @@ pub extern "C" fn klumdray_float_value(code: u32) -> u64
     }
 }
 
-#[unsafe(no_mangle)]
-pub extern "C" fn klumdray_float_read(octets: &[u8]) -> u64
+pub fn klumdray_float_read(octets: &[u8]) -> u64
     ensures { result ≡ value_number (read_octets octets.now) }
 {
     litres::of_value(leak::read_octets(octets))
 }
 
-#[unsafe(no_mangle)]
-pub extern "C" fn klumdray_float_write(hundredths: i64) -> u32
+pub fn klumdray_float_write(hundredths: i64) -> u32
     ensures { result ≡ coded_number (write_code hundredths) }
 {
     litres::of_coded(leak::write(hundredths))
 }
 
-#[unsafe(no_mangle)]
-pub extern "C" fn klumdray_increment(payload: &[u8]) -> u32
+pub fn klumdray_increment(payload: &[u8]) -> u32
     ensures { result ≡ carried_number (increment_in payload.now) }
 {
     litres::of_carried(leak::increment(payload))
 }
 
-#[unsafe(no_mangle)]
-pub extern "C" fn klumdray_total_add(total: &mut [u8], code: u32) -> u32
+pub fn klumdray_total_add(total: &mut [u8], code: u32) -> u32
     ensures { AddedThrough total.old code result total.new }
 {
     let right = (total.len() == 8) & (code < 65536);
@@ -442,13 +416,7 @@ pub extern "C" fn klumdray_total_add(total: &mut [u8], code: u32) -> u32
     }
 }
 
-#[unsafe(no_mangle)]
-pub extern "C" fn klumdray_take(
-    total: &mut [u8],
-    memory: &mut [u8],
-    group: u32,
-    octets: &[u8],
-) -> u32
+pub fn klumdray_take(total: &mut [u8], memory: &mut [u8], group: u32, octets: &[u8]) -> u32
     ensures { TookFrame total.old memory.old group octets.now result total.new memory.new }
 {
     let right = (total.len() == 8) & (memory.len() == 265) & (group < 65536);
