@@ -1,6 +1,6 @@
 -- Document 02, R-1: "four channels, numbered 1 to 4, each open or closed with a receive and a send counter from 0 to 255". How many there
 -- are is the length of the list: but for `many`, nothing here or above says a number of channels.
-use Rattle.std.specs.Prelude.{ℕ, zero, suc, ◌+◌, ◌%◌, ◌≡◌, List, Bool, true, false, get_or, set, replicate}
+use Rattle.std.specs.Prelude.{ℕ, zero, suc, ◌+◌, ◌%◌, List, true, false, get_or, set, replicate}
 use Rattle.channels.specs.declared.Channel.{Channel}
 
 -- "four channels": the one place of the definitions that says how many

@@ -1,14 +1,13 @@
 -- A request judged in parts: cEMI's answer behind the channel's tests, those behind the header's, and the acknowledgement's room.
 use Prim.Native.Nat.{ℕ, ◌≤◌}
 use mathlib.Core.Bool.{Bool, true, false, not, ◌||◌}
-use mathlib.Core.List.{List, [], ◌∷◌, ◌++◌}
+use mathlib.Core.List.{List, ◌∷◌, ◌++◌}
 use mathlib.Core.Path.{◌≡◌, refl, sym, ap, ◌∙◌}
 use native.Mathlib.Omega.{arith}
 use lib.Dec.{ltb}
 use lib.ListN.{length}
 use borrow.Author.Tests.{le-ltb, ltb-false}
 use Rattle.octets.proofs.Room.{laid-front}
-use Rattle.octets.specs.Octets.{octet_at}
 use Rattle.octets.specs.Room.{laid, over}
 use Rattle.frame.proofs.Order.{passed-iff, refused-iff, first-passed, first-refused}
 use Rattle.frame.specs.Order.{Test, first_of, answer_by, ◌gives◌}
@@ -16,7 +15,7 @@ use Rattle.frame.specs.declared.Refusal.TheVariants.{SmallRoom}
 use Rattle.frame.specs.declared.Refusal.{Refusal}
 use Rattle.frame.specs.declared.Verdict.TheVariants.{Fine, Refuse}
 use Rattle.cemi.proofs.Refusals.{accepted-iff as cemi-accepted, refused-iff as cemi-refused}
-use Rattle.cemi.specs.Reading.{cemi_tests, message_in, body, read_cemi}
+use Rattle.cemi.specs.Reading.{cemi_tests, read_cemi}
 use Rattle.cemi.specs.declared.CemiAnswer.TheVariants.{Frame, Refused as Unread}
 use Rattle.cemi.specs.declared.Codes.TheVariants.{All}
 use Rattle.cemi.specs.declared.Message.{Message}
@@ -26,8 +25,7 @@ use Rattle.channels.specs.declared.Channel.{Channel}
 use Rattle.tunnelling.proofs.ConnectionLaws.{connection-verdict}
 use Rattle.tunnelling.proofs.LayoutLaws.{length-acknowledgement}
 use Rattle.tunnelling.specs.Layout.{request_service}
-use Rattle.tunnelling.specs.Reading.{channel_in, counter_in, message, connected_tests, read_connection, request_in}
-use Rattle.tunnelling.specs.declared.Request.{Request}
+use Rattle.tunnelling.specs.Reading.{channel_in, counter_in, message, connected_tests, read_connection}
 use Rattle.exchange.specs.Receiving.{is_expected, is_behind, channel_tests, taken_as, received, channel_after, sent_back, ReceivedOn, Took}
 use Rattle.exchange.specs.Stages.{received_behind, received_message}
 use Rattle.exchange.specs.declared.Received.TheVariants.{Delivered, Again, Refused}

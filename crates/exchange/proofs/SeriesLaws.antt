@@ -20,7 +20,7 @@ use Rattle.tunnelling.specs.Reading.{channel_in, read_request}
 use Rattle.tunnelling.specs.declared.Request.{Request}
 use Rattle.tunnelling.specs.declared.RequestAnswer.TheVariants.{Frame}
 use Rattle.tunnelling.specs.declared.RequestAnswer.{RequestAnswer}
-use Rattle.exchange.proofs.Exactly.{Arrives, delivered-iff}
+use Rattle.exchange.proofs.Exactly.{delivered-iff}
 use Rattle.exchange.specs.Receiving.{received, channel_after, Took}
 use Rattle.exchange.specs.Series.{Client, counter_of, request_of, meant, from_on, Arrival, copy, damaged, Keeps, news, comes, Done, Receives, delivered_of, delivered_by}
 use Rattle.exchange.specs.declared.Received.TheVariants.{Delivered, Again, Refused}

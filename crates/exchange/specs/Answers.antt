@@ -1,5 +1,5 @@
 -- The answers of receiving a request and of receiving an acknowledgement as the paper's number and values.
-use Rattle.std.specs.Prelude.{ℕ, [], ◌∷◌}
+use Rattle.std.specs.Prelude.{[], ◌∷◌}
 use Rattle.frame.specs.Answers.{Numbered, accepted, refused}
 use Rattle.tunnelling.specs.Answers.{request_values}
 use Rattle.exchange.specs.declared.Confirmed.{Confirmed}

@@ -1,6 +1,6 @@
 -- Why R-1 has counters: over one channel each of a client's messages is delivered once and in order, whatever copies of its requests the
 -- network repeats or damages. A client, what arrives of it, and the calls that receive it one after the other.
-use Rattle.std.specs.Prelude.{ℕ, zero, suc, ◌+◌, ◌%◌, ◌≤◌, ◌<◌, ◌≡◌, List, [], ◌∷◌, ◌++◌, Bool, true, false, cond, ◌||◌, length, eqb}
+use Rattle.std.specs.Prelude.{ℕ, zero, suc, ◌+◌, ◌%◌, ◌≤◌, ◌<◌, ◌≡◌, List, [], ◌∷◌, ◌++◌, Bool, false, cond, ◌||◌, length, eqb}
 use Rattle.octets.specs.Octets.{octet_at}
 use Rattle.cemi.specs.Answers.{cemi_numbered}
 use Rattle.cemi.specs.Reading.{message_in, body, read_cemi}

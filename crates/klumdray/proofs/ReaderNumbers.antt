@@ -20,7 +20,6 @@ use Rattle.cemi.specs.declared.Message.{Message}
 use Rattle.frame.proofs.Numbers.{number-listed, number-some, refused-number}
 use Rattle.frame.proofs.Valid.{Ranges, ranges-of, most-payload}
 use Rattle.frame.specs.Answers.{meaning_values}
-use Rattle.frame.specs.Refusals.{number}
 use Rattle.frame.specs.Valid.{Valid}
 use Rattle.frame.specs.declared.Meaning.{Meaning}
 use Rattle.frame.specs.declared.Refusal.{Refusal}

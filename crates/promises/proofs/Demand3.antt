@@ -21,7 +21,6 @@ use Rattle.frame.specs.Answers.{Numbered, accepted}
 use Rattle.frame.specs.Order.{first_of, answer_by, NoneOf}
 use Rattle.frame.specs.declared.Verdict.TheVariants.{Fine}
 use Rattle.frame.specs.declared.Verdict.{Verdict}
-use Rattle.frame.specs.Refusals.{number}
 use Rattle.octets.specs.Octets.{Octets}
 use Rattle.octets.specs.Room.{over}
 use Rattle.site.proofs.RecordCount.{site-most}

@@ -15,7 +15,6 @@ use Rattle.octets.specs.Octets.{octet_at}
 use Rattle.octets.specs.Word.{word_at}
 use Rattle.frame.specs.Answers.{Numbered, accepted, refused}
 use Rattle.frame.specs.Order.{answer_by}
-use Rattle.frame.specs.Refusals.{number}
 use Rattle.frame.specs.declared.Refusal.TheVariants.{Invalid, PastTotal}
 use Rattle.leak.proofs.Answers.{value_tells, coded-tells, added-tells}
 use Rattle.leak.proofs.Apart.{value-refused, code_one, code-refused, sum-refused, hundredths-one}

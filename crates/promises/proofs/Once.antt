@@ -33,7 +33,7 @@ use Rattle.frame.specs.Answers.{accepted}
 use Rattle.frame.specs.Order.{◌gives◌}
 use Rattle.frame.specs.declared.Refusal.TheVariants.{NotOpen}
 use Rattle.octets.specs.Octets.{octet_at}
-use Rattle.exchange.proofs.SeriesLaws.{Awaits, once-from, comes-iff}
+use Rattle.exchange.proofs.SeriesLaws.{once-from, comes-iff}
 use Rattle.exchange.specs.Answers.{received_numbered}
 use Rattle.exchange.specs.Receiving.{Took}
 use Rattle.exchange.specs.Series.{Client, Readable, counter_of, request_of, meant, from_on, Arrival, Keeps, news, comes, Done, Receives, delivered_by}

@@ -20,8 +20,6 @@ use Rattle.frame.specs.Refusals.{number}
 use Rattle.frame.specs.Writing.{room_after}
 use Rattle.frame.specs.declared.Refusal.TheVariants.{NotOpen, OtherCounter}
 use Rattle.frame.specs.declared.Refusal.{Refusal}
-use Rattle.frame.specs.declared.Verdict.TheVariants.{Fine, Refuse}
-use Rattle.frame.specs.declared.Verdict.{Verdict}
 use Rattle.frame.specs.declared.Written.TheVariants.{Put, Refused as Unwritten}
 use Rattle.frame.specs.declared.Written.{Written}
 use Rattle.cemi.specs.Valid.{ValidMessage}
@@ -33,7 +31,7 @@ use Rattle.channels.proofs.TableLaws.{at-put, at_other}
 use Rattle.channels.specs.Calls.{Called}
 use Rattle.channels.specs.Table.{channel_at, put, counted, raised}
 use Rattle.channels.specs.declared.Channel.{Channel}
-use Rattle.tunnelling.proofs.Answers.{request-tells, request-apart, acknowledgement-tells}
+use Rattle.tunnelling.proofs.Answers.{request-tells, acknowledgement-tells}
 use Rattle.tunnelling.proofs.Refusals.{request-accepted-iff, acknowledgement-accepted-iff}
 use Rattle.tunnelling.proofs.RoundTrip.{request-read}
 use Rattle.tunnelling.specs.Answers.{request_values, request_numbered, acknowledgement_values, acknowledgement_numbered}

@@ -20,7 +20,6 @@ use Rattle.site.specs.Stores.{stores}
 use Rattle.tp1.specs.Answers.{tp1_numbered}
 use Rattle.tp1.specs.Reading.{payload_in, read_tp1}
 use Rattle.tracer.specs.Query.{query_of}
-use Rattle.tracer.specs.Listing.{forwardings}
 use Rattle.tracer.specs.declared.Query.{Query}
 use Rattle.tracer.specs.Tracing.{trace_tests, traced_by, list_by}
 

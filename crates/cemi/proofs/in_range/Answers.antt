@@ -1,5 +1,4 @@
 -- The definition's three tests, as the calls ensure them.
-use borrow.Author.Rules.{rules}
 use Rattle.cemi.specs.Writing.{message_in_range}
 use Rattle.cemi.proofs.in_range.Goals as goal
 

@@ -1,6 +1,5 @@
 -- Each return rewrites the first two tests by what led there; the rest of the order is `read_information`'s.
 use mathlib.Core.Path.{sym, ◌∙◌}
-use borrow.Author.Rules.{rules}
 use borrow.Author.Tests.{eq-eqb, ne_eqb}
 use Rattle.cemi.specs.Reading.{read_cemi}
 use Rattle.cemi.specs.Stages.{read_information}

@@ -1,7 +1,6 @@
 -- The code's size is the plain form's; each return is one of the three cases of a writer's answer.
 use mathlib.Core.Path.{refl, sym, ◌∙◌}
 use native.Mathlib.Omega.{arith}
-use borrow.Author.Rules.{rules}
 use Rattle.cemi.proofs.LayoutLaws.{length-plain, message-ranges}
 use Rattle.frame.proofs.Writing.{unranged-iff, unroomed-iff, put-iff}
 use Rattle.cemi.proofs.write.Goals as goal

@@ -1,5 +1,4 @@
 -- The same closed channel in every place.
-use borrow.Author.Rules.{rules}
 use Rattle.channels.proofs.all_closed.Goals as goal
 
 pub returns : goal.returns

@@ -1,7 +1,6 @@
 -- The channel one place before its number; a number behind the last is no channel's.
 use mathlib.Core.Path.{sym, ◌∙◌}
 use native.Mathlib.Omega.{arith}
-use borrow.Author.Rules.{rules}
 use Rattle.channels.proofs.TableLaws.{at_place, at_none}
 use Rattle.channels.proofs.channel_at.Goals as goal
 

@@ -1,5 +1,4 @@
 -- What `put` ensures, of a fresh channel.
-use borrow.Author.Rules.{rules}
 use Rattle.channels.proofs.opened.Goals as goal
 
 pub returns : goal.returns

@@ -1,7 +1,6 @@
 -- Another channel one place before the number; a number behind the last has no place.
 use mathlib.Core.Path.{sym}
 use native.Mathlib.Omega.{arith}
-use borrow.Author.Rules.{rules}
 use Rattle.channels.proofs.TableLaws.{put-place, put-none}
 use Rattle.channels.proofs.put.Goals as goal
 

@@ -1,6 +1,5 @@
 -- One more, modulo 256: 255 alone goes to 0.
 use native.Mathlib.Omega.{arith}
-use borrow.Author.Rules.{rules}
 use Rattle.channels.specs.Table.{raised}
 use Rattle.channels.proofs.raised.Goals as goal
 

@@ -1,7 +1,6 @@
 -- The settings' refusals, then the reader's: each arm is what its callee ensures.
 use mathlib.Core.Path.{sym, ap, ◌∙◌}
 use lib.ListN.{length}
-use borrow.Author.Rules.{rules}
 use Rattle.coupler.proofs.StepLaws.{handed-on, handed-nothing, fine-room}
 use Rattle.coupler.specs.Step.{coupler_by, from_ip, read_by, after, heard}
 use Rattle.frame.specs.declared.Verdict.{Verdict}

@@ -1,5 +1,4 @@
 -- A first sending is none; otherwise what `agree` ensures.
-use borrow.Author.Rules.{rules}
 use Rattle.coupler.specs.Memory.{is_repetition}
 use Rattle.coupler.proofs.is_repetition.Goals as goal
 

@@ -1,5 +1,4 @@
 -- Both sides, as the calls ensure them.
-use borrow.Author.Rules.{rules}
 use Rattle.coupler.proofs.nothing_remembered.Goals as goal
 
 pub returns : goal.returns

@@ -1,5 +1,4 @@
 -- One application of `settled` to what the calls ensure, in their order.
-use borrow.Author.Rules.{rules}
 use Rattle.exchange.proofs.ConfirmingLaws.{settled}
 use Rattle.exchange.proofs.confirm.Goals as goal
 

@@ -1,6 +1,5 @@
 -- The tests of header and connection header refuse, or the channel's decide.
 use mathlib.Core.Path.{sym, ◌∙◌}
-use borrow.Author.Rules.{rules}
 use Rattle.exchange.proofs.ConfirmingLaws.{connection-refuses, connection-passes}
 use Rattle.exchange.proofs.confirm_on.Goals as goal
 

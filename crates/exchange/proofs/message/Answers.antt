@@ -1,7 +1,6 @@
 -- The request's own part where it was delivered; otherwise none.
 use mathlib.Core.Path.{refl}
 use native.Mathlib.Omega.{arith}
-use borrow.Author.Rules.{rules}
 use Rattle.exchange.proofs.message.Goals as goal
 
 pub returns-in-Delivered : goal.returns-in-Delivered

@@ -1,5 +1,4 @@
 -- One application of `took` to what the calls ensure, in their order.
-use borrow.Author.Rules.{rules}
 use Rattle.exchange.proofs.ReceivingLaws.{took}
 use Rattle.exchange.proofs.receive.Goals as goal
 

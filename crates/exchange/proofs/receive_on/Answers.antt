@@ -1,5 +1,4 @@
 -- The answer, and its acknowledgement laid over the room.
-use borrow.Author.Rules.{rules}
 use Rattle.exchange.proofs.ReceivingLaws.{received-on}
 use Rattle.exchange.proofs.receive_on.Goals as goal
 

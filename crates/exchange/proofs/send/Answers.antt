@@ -1,5 +1,4 @@
 -- The core's outcome, on the channel that the table has under the number.
-use borrow.Author.Rules.{rules}
 use Rattle.exchange.proofs.SendingLaws.{sent-at}
 use Rattle.exchange.proofs.send.Goals as goal
 

@@ -1,6 +1,5 @@
 -- 14 and 20 here, and behind them the writer's own answer.
 use mathlib.Core.Path.{sym, ◌∙◌}
-use borrow.Author.Rules.{rules}
 use Rattle.exchange.proofs.SendingLaws.{sent-unranged, sent-closed, sent-written}
 use Rattle.exchange.proofs.send_on.Goals as goal
 

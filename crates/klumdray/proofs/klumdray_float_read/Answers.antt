@@ -1,6 +1,5 @@
 -- What the octets stand for, as its number.
 use mathlib.Core.Path.{ap, ◌∙◌}
-use borrow.Author.Rules.{rules}
 use Rattle.klumdray.specs.Litres.{value_number}
 use Rattle.klumdray.proofs.klumdray_float_read.Goals as goal
 

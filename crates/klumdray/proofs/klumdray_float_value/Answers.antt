@@ -2,7 +2,6 @@
 use Prim.Native.Nat.{◌%◌}
 use mathlib.Core.Path.{◌≡◌, ap, ◌∙◌}
 use native.Mathlib.Omega.{arith}
-use borrow.Author.Rules.{rules}
 use borrow.Author.Tests.{lt-ltb, le-ltb}
 use Rattle.leak.specs.Reading.{read_code}
 use Rattle.klumdray.specs.Litres.{value_number, value_given}

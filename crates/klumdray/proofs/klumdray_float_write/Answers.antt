@@ -1,7 +1,6 @@
 -- The writer's answer as its number; the hundredths are taken back from their bits.
 use mathlib.Core.Path.{ap, ◌∙◌}
 use mir.Facts.{to_z-of_z}
-use borrow.Author.Rules.{rules}
 use Rattle.klumdray.specs.Litres.{coded_number}
 use Rattle.klumdray.proofs.klumdray_float_write.Goals as goal
 

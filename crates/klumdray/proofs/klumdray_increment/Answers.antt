@@ -1,6 +1,5 @@
 -- What the payload carries, as its number.
 use mathlib.Core.Path.{ap, ◌∙◌}
-use borrow.Author.Rules.{rules}
 use Rattle.klumdray.specs.Litres.{carried_number}
 use Rattle.klumdray.proofs.klumdray_increment.Goals as goal
 

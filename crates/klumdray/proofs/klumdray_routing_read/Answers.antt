@@ -1,5 +1,4 @@
 -- The inner answer and the length of the part that was handed out, as a number.
-use borrow.Author.Rules.{rules}
 use Rattle.klumdray.proofs.klumdray_routing_read.Goals as goal
 
 pub returns : goal.returns

@@ -1,6 +1,5 @@
 -- The inner writer behind the tests whether the numbers fit: both arms are laws of `Surface`.
 use mathlib.Core.Bool.{true}
-use borrow.Author.Rules.{rules}
 use Rattle.cemi.specs.declared.Codes.TheVariants.{IndicationOnly}
 use Rattle.klumdray.proofs.Surface.{sized, wrote-number, unfit-refused, tested-marks, meaning-kept, message-kept}
 use Rattle.klumdray.proofs.WriterNumbers.{routing-most}

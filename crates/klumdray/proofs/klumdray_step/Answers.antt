@@ -3,7 +3,6 @@
 use Prim.Native.Nat.{◌+◌, ◌-◌}
 use mathlib.Core.Path.{◌≡◌}
 use native.Mathlib.Omega.{arith}
-use borrow.Author.Rules.{rules}
 use Rattle.klumdray.proofs.BlockLaws.{right-block, stepped, side-kept, stepped-wrong}
 use Rattle.klumdray.specs.Block.{coupler_set}
 use Rattle.klumdray.proofs.klumdray_step.Goals as goal

@@ -4,7 +4,6 @@ use mathlib.Core.Path.{◌≡◌}
 use native.Mathlib.Omega.{arith}
 use mir.Facts.{to_z-of_z}
 use mir.Syntax.{w64}
-use borrow.Author.Rules.{rules}
 use Rattle.klumdray.proofs.LitresLaws.{lent_fits, taken-fit, taken-unfit}
 use Rattle.klumdray.proofs.klumdray_take.Goals as goal
 

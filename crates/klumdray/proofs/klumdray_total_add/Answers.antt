@@ -1,7 +1,6 @@
 -- One application of `added-fit` to what the calls ensure, in their order; a block or a code that does not fit is `added-unfit`'s.
 use mir.Facts.{to_z-of_z}
 use mir.Syntax.{w64}
-use borrow.Author.Rules.{rules}
 use Rattle.klumdray.proofs.LitresLaws.{added-fit, added-unfit}
 use Rattle.klumdray.proofs.klumdray_total_add.Goals as goal
 

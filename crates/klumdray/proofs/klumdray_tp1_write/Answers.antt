@@ -1,6 +1,5 @@
 -- The inner writer behind the tests whether the numbers fit: both arms are laws of `Surface`.
 use mathlib.Core.Bool.{true}
-use borrow.Author.Rules.{rules}
 use Rattle.klumdray.proofs.Surface.{sized, wrote-number, unfit-refused, tested, meaning-kept}
 use Rattle.klumdray.proofs.WriterNumbers.{tp1-most}
 use Rattle.klumdray.proofs.klumdray_tp1_write.Goals as goal

@@ -1,6 +1,5 @@
 -- The inner trace behind the test whether the numbers fit: both arms are laws of `Surface`.
 use mathlib.Core.Path.{sym, ◌∙◌}
-use borrow.Author.Rules.{rules}
 use Rattle.klumdray.proofs.Surface.{query-kept, traced_fit, traced-unfit}
 use Rattle.klumdray.proofs.klumdray_trace.Goals as goal
 

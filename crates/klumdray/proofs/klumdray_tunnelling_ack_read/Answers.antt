@@ -1,5 +1,4 @@
 -- The inner answer, as a number.
-use borrow.Author.Rules.{rules}
 use Rattle.klumdray.proofs.klumdray_tunnelling_ack_read.Goals as goal
 
 pub returns : goal.returns

@@ -1,6 +1,5 @@
 -- The inner writer behind the test whether the numbers fit: both arms are laws of `Surface`.
 use mathlib.Core.Path.{sym, ◌∙◌}
-use borrow.Author.Rules.{rules}
 use Rattle.klumdray.proofs.Surface.{sized, wrote-fit, unfit-alone, acknowledgement-kept}
 use Rattle.klumdray.proofs.WriterNumbers.{acknowledgement-most}
 use Rattle.klumdray.proofs.klumdray_tunnelling_ack_write.Goals as goal

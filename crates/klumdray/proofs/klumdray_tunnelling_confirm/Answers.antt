@@ -1,6 +1,5 @@
 -- One application of `confirmed-fit` to what the calls ensure, in their order; a block of another size is `confirmed-unfit`'s.
 use mathlib.Core.Path.{sym, ◌∙◌}
-use borrow.Author.Rules.{rules}
 use Rattle.klumdray.proofs.ChannelLaws.{confirmed-fit, confirmed-unfit}
 use Rattle.klumdray.proofs.klumdray_tunnelling_confirm.Goals as goal
 

@@ -1,6 +1,5 @@
 -- One application of `took-fit` to what the calls ensure, in their order; a block of another size is `took-unfit`'s.
 use mathlib.Core.Path.{sym, ◌∙◌}
-use borrow.Author.Rules.{rules}
 use Rattle.klumdray.proofs.ChannelLaws.{took-fit, took-unfit}
 use Rattle.klumdray.proofs.klumdray_tunnelling_receive.Goals as goal
 

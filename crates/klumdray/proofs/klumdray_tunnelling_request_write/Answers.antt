@@ -1,6 +1,5 @@
 -- The inner writer behind the tests whether the numbers fit: both arms are laws of `Surface`.
 use mathlib.Core.Bool.{true}
-use borrow.Author.Rules.{rules}
 use Rattle.klumdray.proofs.Surface.{sized, wrote-number, unfit-refused, tested-connected, meaning-kept, message-kept, octets-kept}
 use Rattle.klumdray.proofs.WriterNumbers.{request-most}
 use Rattle.octets.proofs.Truth.{and-true}

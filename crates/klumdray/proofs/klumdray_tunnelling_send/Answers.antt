@@ -1,6 +1,5 @@
 -- The inner call behind the tests of the block's size and whether the numbers fit: both arms are laws of `ChannelLaws`.
 use mathlib.Core.Bool.{◌&&◌}
-use borrow.Author.Rules.{rules}
 use Rattle.klumdray.proofs.ChannelLaws.{sent-sized, sent-fit, sent-unfit}
 use Rattle.klumdray.proofs.Surface.{tested-block, meaning-kept, message-kept}
 use Rattle.klumdray.specs.Channels.{are_channels}

@@ -1,7 +1,6 @@
 -- The inner explanation behind the test whether the numbers fit: both arms are laws of `Surface`.
 use mathlib.Core.Path.{◌∙◌}
 use lib.Dec.{ltb}
-use borrow.Author.Rules.{rules}
 use Rattle.klumdray.proofs.Surface.{octet-kept, tested-line, query-kept, why-fit, why-unfit}
 use Rattle.octets.proofs.Truth.{and-true}
 use Rattle.klumdray.proofs.klumdray_why.Goals as goal

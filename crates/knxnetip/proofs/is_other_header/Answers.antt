@@ -1,5 +1,4 @@
 -- The two octets that the definition names, as `octet` hands them out.
-use borrow.Author.Rules.{rules}
 use Rattle.knxnetip.specs.Header.{is_other_header}
 use Rattle.knxnetip.proofs.is_other_header.Goals as goal
 

@@ -1,5 +1,4 @@
 -- The two octets of the service, as `word_at` hands them out.
-use borrow.Author.Rules.{rules}
 use Rattle.knxnetip.specs.Header.{is_other_service}
 use Rattle.knxnetip.proofs.is_other_service.Goals as goal
 

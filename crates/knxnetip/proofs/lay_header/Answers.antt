@@ -1,5 +1,4 @@
 -- The header is the list of what the calls ensure; `lay` puts it over the room.
-use borrow.Author.Rules.{rules}
 use Rattle.knxnetip.proofs.lay_header.Goals as goal
 
 pub returns : goal.returns

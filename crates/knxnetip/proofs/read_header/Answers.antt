@@ -1,6 +1,5 @@
 -- Each return rewrites the tests of the header by what led there.
 use mathlib.Core.Path.{sym, ◌∙◌}
-use borrow.Author.Rules.{rules}
 use borrow.Author.Tests.{lt-ltb, le-ltb}
 use Rattle.knxnetip.specs.Header.{read_header}
 use Rattle.knxnetip.proofs.read_header.Goals as goal

@@ -8,7 +8,6 @@ use mir.Val.{SFits}
 use Rattle.leak.specs.declared.Added.TheVariants.{Sum}
 use Rattle.leak.proofs.Exactly.{add-invalid, add-past, add-within}
 use Rattle.leak.proofs.Range.{wide_fits, asked_is, sum_fits, sum_back}
-use borrow.Author.Rules.{rules}
 use Rattle.leak.proofs.add.Goals as goal
 
 pub overflow_cast-value : goal.overflow_cast-value

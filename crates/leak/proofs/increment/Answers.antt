@@ -1,5 +1,4 @@
 -- The code asks for what `is_increment` says, of the octets that `octet` gives.
-use borrow.Author.Rules.{rules}
 use Rattle.leak.specs.Increment.{increment_in}
 use Rattle.leak.proofs.increment.Goals as goal
 

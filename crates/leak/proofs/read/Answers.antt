@@ -1,7 +1,6 @@
 -- The one test of the order, as the code asks it; the value by the contract of `hundredths`, taken back from its bits.
 use mir.Facts.{to_z-of_z}
 use borrow.Author.Tests.{eq-eqb, ne_eqb}
-use borrow.Author.Rules.{rules}
 use Rattle.leak.specs.Reading.{read_code}
 use Rattle.leak.proofs.read.Goals as goal
 

@@ -1,6 +1,5 @@
 -- The two tests of the length, then the reader's own.
 use mathlib.Core.Path.{ap, ◌∙◌}
-use borrow.Author.Rules.{rules}
 use borrow.Author.Tests.{lt-ltb, le-ltb}
 use Rattle.leak.specs.Reading.{read_code, read_octets}
 use Rattle.leak.proofs.read_octets.Goals as goal

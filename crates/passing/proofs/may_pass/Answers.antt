@@ -1,5 +1,4 @@
 -- One code, chosen by the direction and the address's class, decides; the parts are as the calls ensure them.
-use borrow.Author.Rules.{rules}
 use Rattle.passing.specs.Passing.{may_pass}
 use Rattle.passing.proofs.may_pass.Goals as goal
 

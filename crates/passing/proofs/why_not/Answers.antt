@@ -1,6 +1,5 @@
 -- Each return is the definition's first cause that is true, by the tests that led there.
 use mathlib.Core.Path.{refl, sym, ◌∙◌}
-use borrow.Author.Rules.{rules}
 use borrow.Author.Tests.{eq-eqb, ne_eqb}
 use Rattle.passing.specs.Passing.{passage_of}
 use Rattle.passing.proofs.why_not.Goals as goal

@@ -1,7 +1,6 @@
 -- The room has the list's text and the last line behind it.
 -- LOOK: 5 arguments for 4 needs
 use native.Mathlib.Omega.{arith}
-use borrow.Author.Rules.{rules}
 use Rattle.report.proofs.Puts.{fits-then, puts_then}
 use Rattle.report.proofs.ReportLaws.{listed-fits}
 use Rattle.report.proofs.Size.{length-list}

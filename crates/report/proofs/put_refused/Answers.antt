@@ -1,7 +1,6 @@
 -- The room has any refusal's line.
 -- LOOK: 4 arguments for 3 needs
 use native.Mathlib.Omega.{arith}
-use borrow.Author.Rules.{rules}
 use Rattle.report.proofs.ReportLaws.{refused-fits}
 use Rattle.report.proofs.put_refused.Goals as goal
 

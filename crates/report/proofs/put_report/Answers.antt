@@ -1,6 +1,5 @@
 -- Each return is one of the definition's tests.
 use mathlib.Core.Path.{sym}
-use borrow.Author.Rules.{rules}
 use Rattle.report.proofs.ReportLaws.{report-few, report-many, report-traced, puts-as}
 use Rattle.report.proofs.put_report.Goals as goal
 

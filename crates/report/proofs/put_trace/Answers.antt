@@ -2,7 +2,6 @@
 use mathlib.Core.Path.{sym}
 use native.Mathlib.Omega.{arith}
 use lib.Seq.{length-take-le}
-use borrow.Author.Rules.{rules}
 use Rattle.report.proofs.ReportLaws.{traced-refused, traced-listed, puts-as}
 use Rattle.report.proofs.put_trace.Goals as goal
 

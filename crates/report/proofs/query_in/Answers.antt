@@ -1,5 +1,4 @@
 -- Each part as it stands in the input.
-use borrow.Author.Rules.{rules}
 use Rattle.report.proofs.query_in.Goals as goal
 
 pub returns : goal.returns

@@ -1,5 +1,4 @@
 -- The room is looked at first; a room of 8,192 octets has every text.
-use borrow.Author.Rules.{rules}
 use Rattle.report.proofs.ReportLaws.{unroomed, roomed}
 use Rattle.report.proofs.report.Goals as goal
 

@@ -1,7 +1,6 @@
 -- The header's tests stand before the message's: they refuse, or the rest of the order is `cemi`'s.
 use mathlib.Core.Path.{sym, ◌∙◌}
 use lib.ListN.{drop}
-use borrow.Author.Rules.{rules}
 use Rattle.cemi.specs.Reading.{cemi_tests, read_cemi}
 use Rattle.cemi.specs.declared.Codes.TheVariants.{IndicationOnly}
 use Rattle.frame.proofs.Order.{first-passed, first-refused}

@@ -1,7 +1,6 @@
 -- The code's size is the datagram's; each return is one of the three cases of a writer's answer.
 use mathlib.Core.Path.{refl, sym, ◌∙◌}
 use native.Mathlib.Omega.{arith}
-use borrow.Author.Rules.{rules}
 use Rattle.cemi.proofs.LayoutLaws.{message-ranges}
 use Rattle.frame.proofs.Valid.{most-payload}
 use Rattle.frame.proofs.Writing.{unranged-iff, unroomed-iff, put-iff}

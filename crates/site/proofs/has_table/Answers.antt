@@ -1,6 +1,5 @@
 -- FFh asks the codes, every other number the table's size.
 use mathlib.Core.Path.{refl}
-use borrow.Author.Rules.{rules}
 use borrow.Author.Tests.{eq-eqb, ne_eqb}
 use Rattle.site.specs.WellFormed.{has_table}
 use Rattle.site.proofs.has_table.Goals as goal

@@ -1,6 +1,5 @@
 -- Each return is the first test that is true, by those that led there.
 use mathlib.Core.Path.{refl, sym, ◌∙◌}
-use borrow.Author.Rules.{rules}
 use Rattle.site.proofs.judge_record.Goals as goal
 
 pub returns-then-wrong : goal.returns-then-wrong

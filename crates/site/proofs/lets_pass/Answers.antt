@@ -1,6 +1,5 @@
 -- Without a record no coupler is fitted; otherwise the coupler's own test both ways, with what the record says.
 use mathlib.Core.Path.{refl}
-use borrow.Author.Rules.{rules}
 use borrow.Author.Tests.{eq-eqb, ne_eqb}
 use Rattle.site.proofs.LettingLaws.{group-asked, individual-asked, two-marks}
 use Rattle.site.proofs.lets_pass.Goals as goal

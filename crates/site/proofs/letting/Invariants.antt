@@ -1,11 +1,7 @@
 -- The loop's law `BothBelow`: the lines below the one at hand are marked, each by its record.
 use Prim.Native.Nat.{◌-◌}
-use mathlib.Core.Path.{refl, ap, ◌∙◌}
-use native.Mathlib.Omega.{arith}
-use borrow.Author.Rules.{rules}
-use Rattle.site.proofs.LettingLaws.{BothBelow, both-none, both-more, both-all}
+use Rattle.site.proofs.LettingLaws.{BothBelow}
 use Rattle.site.specs.Letting.{line_lets_pass_by}
-use Rattle.site.specs.Stages.{record_both_ways}
 use Rattle.site.specs.Stores.{stores}
 use Rattle.site.proofs.letting.Given as goal
 

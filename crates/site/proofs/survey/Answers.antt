@@ -1,6 +1,5 @@
 -- Store sizes, then the length, then the records.
 use mathlib.Core.Path.{refl, sym, ◌∙◌}
-use borrow.Author.Rules.{rules}
 use borrow.Author.Tests.{eq-eqb, ne_eqb}
 use Rattle.site.proofs.Surveying.{refused-by, records-decide}
 use Rattle.site.specs.WellFormed.{site_tests}

@@ -1,12 +1,9 @@
 -- The walk's law `Surveying`: a record that is fine moves the index on, one that is not decides.
-use Prim.Native.Nat.{◌-◌}
 use mathlib.Core.Path.{refl}
 use native.Mathlib.Omega.{arith}
-use lib.ListN.{length}
 use borrow.Author.Rules.{rules}
 use Rattle.site.proofs.RecordLaws.{record-some, record-most}
-use Rattle.site.proofs.Surveying.{apart-few, Surveying, surveying-none, surveying-all, surveying-cut, surveying-refused, surveying-more}
-use Rattle.site.specs.Stores.{stores}
+use Rattle.site.proofs.Surveying.{apart-few, surveying-none, surveying-all, surveying-cut, surveying-refused, surveying-more}
 use Rattle.site.proofs.survey_records.Goals as goal
 
 pub loop-octets-init : goal.loop-octets-init

@@ -1,6 +1,5 @@
 -- No record, no coupler; otherwise the coupler's own reasons, with what its record says.
 use mathlib.Core.Path.{refl}
-use borrow.Author.Rules.{rules}
 use borrow.Author.Tests.{eq-eqb, ne_eqb}
 use Rattle.site.specs.Letting.{passage_by}
 use Rattle.site.proofs.why_not.Goals as goal

@@ -1,6 +1,5 @@
 -- The tests as the definition has them: the address, the repetition, what the payload carries.
-use mathlib.Core.Path.{◌≡◌, ap, ◌∙◌}
-use borrow.Author.Rules.{rules}
+use mathlib.Core.Path.{ap, ◌∙◌}
 use Rattle.leak.specs.Increment.{increment_in}
 use Rattle.station.specs.Taking.{telegram_by, telegram_of}
 use Rattle.station.proofs.of_frame.Goals as goal

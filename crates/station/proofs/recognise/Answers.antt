@@ -1,5 +1,4 @@
 -- The reader's answer, case by case.
-use borrow.Author.Rules.{rules}
 use Rattle.station.specs.Taking.{telegram_in}
 use Rattle.station.proofs.recognise.Goals as goal
 

@@ -1,6 +1,5 @@
 -- What was recognised, case by case; an increment by `summed`. The total is taken back from its bits.
 use mir.Facts.{to_z-of_z}
-use borrow.Author.Rules.{rules}
 use Rattle.station.specs.Taking.{taken_by}
 use Rattle.station.proofs.take.Goals as goal
 

@@ -1,6 +1,5 @@
 -- Each return rewrites the first two tests by what led there; the rest of the order is `read_head`'s.
 use mathlib.Core.Path.{sym, ◌∙◌}
-use borrow.Author.Rules.{rules}
 use borrow.Author.Tests.{eq-eqb, ne_eqb}
 use Rattle.tp1.specs.Reading.{read_tp1}
 use Rattle.tp1.specs.Stages.{read_from}

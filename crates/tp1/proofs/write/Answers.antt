@@ -5,7 +5,6 @@ use mathlib.Core.List.{List}
 use mathlib.Core.Path.{◌≡◌, refl, sym, ap, ◌∙◌}
 use native.Mathlib.Omega.{arith}
 use lib.ListN.{length}
-use borrow.Author.Rules.{rules}
 use Rattle.frame.proofs.Writing.{unranged-iff, unroomed-iff, put-iff}
 use Rattle.frame.specs.declared.Meaning.{Meaning}
 use Rattle.tp1.proofs.LayoutLaws.{head-most, length-octets}

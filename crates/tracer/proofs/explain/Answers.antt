@@ -1,5 +1,4 @@
 -- The walk up, then down, is the walk over the path.
-use borrow.Author.Rules.{rules}
 use Rattle.tracer.proofs.WalkingLaws.{explained-reached, explained-stopped}
 use Rattle.tracer.proofs.explain.Goals as goal
 

@@ -1,5 +1,4 @@
 -- The hop rule, as `hopped_count` ensures it.
-use borrow.Author.Rules.{rules}
 use Rattle.tracer.proofs.hopped.Goals as goal
 
 pub returns : goal.returns

@@ -1,7 +1,6 @@
 -- The marks, the way over them and the list of the lines reached, one after the other.
 use Prim.Native.Nat.{◌<◌}
 use native.Mathlib.Omega.{arith}
-use borrow.Author.Rules.{rules}
 use Rattle.site.proofs.StartLaws.{noted-letting}
 use Rattle.site.specs.Stores.{stores}
 use Rattle.tracer.proofs.ListedBy.{listed_by}

@@ -1,5 +1,4 @@
 -- The test of the low four bits is the definition's own.
-use borrow.Author.Rules.{rules}
 use borrow.Author.Tests.{eq-eqb, ne_eqb}
 use Rattle.tracer.specs.Lines.{main_side}
 use Rattle.tracer.proofs.main_side.Goals as goal

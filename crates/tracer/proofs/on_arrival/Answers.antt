@@ -1,7 +1,6 @@
 -- Where more couplers were crossed than the count, the difference is 0.
 use mathlib.Core.Path.{sym, ◌∙◌}
 use native.Mathlib.Omega.{arith}
-use borrow.Author.Rules.{rules}
 use Rattle.tracer.specs.Query.{on_arrival}
 use Rattle.tracer.proofs.on_arrival.Goals as goal
 

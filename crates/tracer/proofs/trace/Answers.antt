@@ -1,6 +1,5 @@
 -- Refused by the query, refused by the site, or the list: the first verdict that is none of fine.
 use mathlib.Core.Path.{sym, ◌∙◌}
-use borrow.Author.Rules.{rules}
 use Rattle.site.proofs.StartLaws.{survey-notes}
 use Rattle.site.specs.Stores.{stores}
 use Rattle.tracer.proofs.ListedBy.{asked-room, asked-refused, site-refused, trace-listed}

@@ -1,6 +1,5 @@
 -- Refused as the trace is, which has room enough; otherwise the explanation.
 use mathlib.Core.Path.{sym, ◌∙◌}
-use borrow.Author.Rules.{rules}
 use Rattle.site.proofs.StartLaws.{survey-notes}
 use Rattle.site.specs.Stores.{stores}
 use Rattle.tracer.proofs.WalkingLaws.{why-asked, why-refused, why-explained}

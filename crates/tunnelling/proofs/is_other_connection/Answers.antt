@@ -1,5 +1,4 @@
 -- The octet behind the header, as `octet` hands it out.
-use borrow.Author.Rules.{rules}
 use Rattle.tunnelling.specs.Reading.{is_other_connection}
 use Rattle.tunnelling.proofs.is_other_connection.Goals as goal
 

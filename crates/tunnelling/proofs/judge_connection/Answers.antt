@@ -1,6 +1,5 @@
 -- Each return rewrites the two tests by what led there.
 use mathlib.Core.Path.{sym, ◌∙◌}
-use borrow.Author.Rules.{rules}
 use borrow.Author.Tests.{lt-ltb, le-ltb}
 use Rattle.tunnelling.specs.Stages.{judge_connection}
 use Rattle.tunnelling.proofs.judge_connection.Goals as goal

@@ -1,5 +1,4 @@
 -- The head is the list of what the calls ensure; `lay` puts it over the room.
-use borrow.Author.Rules.{rules}
 use Rattle.tunnelling.proofs.lay_head.Goals as goal
 
 pub returns : goal.returns

@@ -1,9 +1,8 @@
 -- The tests of header and connection header refuse, or the last one decides.
 use mathlib.Core.List.{[], ◌∷◌}
-use mathlib.Core.Path.{◌≡◌, sym, ◌∙◌}
+use mathlib.Core.Path.{sym, ◌∙◌}
 use lib.Dec.{ltb}
 use lib.ListN.{length}
-use borrow.Author.Rules.{rules}
 use borrow.Author.Tests.{lt-ltb, le-ltb}
 use Rattle.frame.proofs.Order.{first-passed, first-refused}
 use Rattle.frame.specs.Order.{◌gives◌}

@@ -1,6 +1,5 @@
 -- The header's tests stand before the connection header's: they refuse, or the rest of the order decides.
 use mathlib.Core.Path.{sym, ◌∙◌}
-use borrow.Author.Rules.{rules}
 use Rattle.frame.proofs.Order.{first-passed, first-refused}
 use Rattle.knxnetip.proofs.HeaderLaws.{header-verdict}
 use Rattle.knxnetip.specs.Header.{header_tests}

@@ -1,9 +1,7 @@
 -- The tests of header and connection header stand before the message's: they refuse, or the rest of the order is `cemi`'s.
-use mathlib.Core.Path.{◌≡◌, sym, ap, ◌∙◌}
-use lib.ListN.{drop}
-use borrow.Author.Rules.{rules}
+use mathlib.Core.Path.{sym, ◌∙◌}
 use Rattle.cemi.proofs.Refusals.{accepted-iff as cemi-accepted, refused-iff as cemi-refused}
-use Rattle.cemi.specs.Reading.{cemi_tests, read_cemi}
+use Rattle.cemi.specs.Reading.{cemi_tests}
 use Rattle.cemi.specs.declared.Codes.TheVariants.{All}
 use Rattle.frame.proofs.Order.{passed-iff, refused-iff, first-passed, first-refused}
 use Rattle.octets.proofs.Split.{rest-is}

@@ -1,7 +1,6 @@
 -- The acknowledgement is ten octets: 13 below them, otherwise the head alone over the room.
 use mathlib.Core.Path.{refl, sym, ◌∙◌}
 use native.Mathlib.Omega.{arith}
-use borrow.Author.Rules.{rules}
 use Rattle.frame.proofs.Writing.{unroomed-iff, put-iff}
 use Rattle.octets.proofs.Room.{laid-front}
 use Rattle.tunnelling.proofs.LayoutLaws.{length-acknowledgement}

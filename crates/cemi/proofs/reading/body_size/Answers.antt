@@ -1,5 +1,4 @@
 -- The octet of LG, as `octet` hands it out.
-use borrow.Author.Rules.{rules}
 use Rattle.cemi.specs.Reading.{body_size}
 use Rattle.cemi.proofs.reading.body_size.Goals as goal
 

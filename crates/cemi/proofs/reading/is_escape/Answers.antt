@@ -1,5 +1,4 @@
 -- The octet of LG, as `octet` hands it out.
-use borrow.Author.Rules.{rules}
 use Rattle.cemi.specs.Reading.{is_escape}
 use Rattle.cemi.proofs.reading.is_escape.Goals as goal
 

@@ -1,5 +1,4 @@
 -- Ctrl1 and the octet of LG, as `octet` hands them out.
-use borrow.Author.Rules.{rules}
 use Rattle.cemi.specs.Reading.{is_long_standard}
 use Rattle.cemi.proofs.reading.is_long_standard.Goals as goal
 

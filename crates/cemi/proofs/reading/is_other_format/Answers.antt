@@ -1,5 +1,4 @@
 -- Ctrl2, as `octet` hands it out.
-use borrow.Author.Rules.{rules}
 use Rattle.cemi.specs.Reading.{is_other_format}
 use Rattle.cemi.proofs.reading.is_other_format.Goals as goal
 

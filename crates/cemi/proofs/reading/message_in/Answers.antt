@@ -1,5 +1,4 @@
 -- Bit 0 of Ctrl1 and the fields, as the calls ensure them.
-use borrow.Author.Rules.{rules}
 use Rattle.cemi.specs.Reading.{message_in}
 use Rattle.cemi.proofs.reading.message_in.Goals as goal
 

@@ -1,6 +1,5 @@
 -- Each return rewrites the tests of the body by what led there; the last two are `read_end`'s.
 use mathlib.Core.Path.{sym, ◌∙◌}
-use borrow.Author.Rules.{rules}
 use borrow.Author.Tests.{lt-ltb, le-ltb}
 use Rattle.cemi.specs.Stages.{read_body}
 use Rattle.cemi.proofs.reading.read_body.Goals as goal

@@ -1,5 +1,4 @@
 -- Each return rewrites the last two tests by what led there.
-use borrow.Author.Rules.{rules}
 use borrow.Author.Tests.{lt-ltb, le-ltb}
 use Rattle.cemi.specs.Stages.{read_body}
 use Rattle.cemi.proofs.reading.read_end.Goals as goal

@@ -1,7 +1,6 @@
 -- Octets that end within the additional information have no body, which is the body's first test; the other returns rewrite by what led there.
 use Prim.Native.Nat.{◌+◌}
 use native.Mathlib.Omega.{arith}
-use borrow.Author.Rules.{rules}
 use borrow.Author.Tests.{lt-ltb, le-ltb, eq-eqb, ne_eqb}
 use Rattle.cemi.proofs.Body.{no_body}
 use Rattle.cemi.specs.Reading.{body}

@@ -1,7 +1,6 @@
 -- The control octet and bit 0: its other bits are those of the plain form.
 use mathlib.Core.Bool.{◌&&◌}
 use native.Mathlib.Omega.{arith}
-use borrow.Author.Rules.{rules}
 use Rattle.cemi.proofs.LayoutLaws.{plain-ctrl1}
 use Rattle.cemi.specs.Codes.{is_confirmation}
 use Rattle.frame.proofs.Fields.{control-most}

@@ -1,6 +1,5 @@
 -- Head and payload, laid one behind the other: `plain-room`, whose hypotheses are what the two calls ensure.
 use native.Mathlib.Omega.{arith}
-use borrow.Author.Rules.{rules}
 use Rattle.cemi.proofs.LayoutLaws.{plain-room}
 use Rattle.frame.proofs.Valid.{ranges-of, most-payload}
 use Rattle.cemi.proofs.writing.put.Goals as goal

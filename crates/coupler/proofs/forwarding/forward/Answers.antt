@@ -1,5 +1,4 @@
 -- Either writer refuses nothing here: `sent-ip` and `sent-tp1`.
-use borrow.Author.Rules.{rules}
 use Rattle.coupler.proofs.StepLaws.{sent-tp1, sent-ip}
 use Rattle.coupler.proofs.forwarding.forward.Goals as goal
 

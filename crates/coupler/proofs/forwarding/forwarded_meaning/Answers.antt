@@ -1,5 +1,4 @@
 -- The count by the hop rule, as the call ensures it.
-use borrow.Author.Rules.{rules}
 use Rattle.coupler.proofs.forwarding.forwarded_meaning.Goals as goal
 
 pub returns : goal.returns

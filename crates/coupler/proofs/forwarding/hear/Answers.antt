@@ -1,6 +1,5 @@
 -- Each arm is what its reader ensures.
 use mathlib.Core.Path.{ap, ◌∙◌}
-use borrow.Author.Rules.{rules}
 use Rattle.coupler.specs.Hearing.{meaning_only}
 use Rattle.coupler.proofs.forwarding.hear.Goals as goal
 

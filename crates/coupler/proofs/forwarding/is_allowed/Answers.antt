@@ -1,5 +1,4 @@
 -- The address and the codes, as `may_pass` ensures them, and the count.
-use borrow.Author.Rules.{rules}
 use Rattle.coupler.proofs.forwarding.is_allowed.Goals as goal
 
 pub returns : goal.returns

@@ -1,5 +1,4 @@
 -- Each return rewrites the tests of the settings by what led there.
-use borrow.Author.Rules.{rules}
 use borrow.Author.Tests.{lt-ltb, le-ltb}
 use Rattle.coupler.proofs.forwarding.judge.Goals as goal
 

@@ -1,5 +1,4 @@
 -- The bit of AT, as `flag` weighs it.
-use borrow.Author.Rules.{rules}
 use Rattle.coupler.proofs.forwarding.kind_of.Goals as goal
 
 pub returns : goal.returns

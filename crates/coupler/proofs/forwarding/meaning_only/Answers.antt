@@ -1,5 +1,4 @@
 -- Each arm knows its case of the answer.
-use borrow.Author.Rules.{rules}
 use Rattle.coupler.proofs.forwarding.meaning_only.Goals as goal
 
 pub returns-in-Refused : goal.returns-in-Refused

@@ -1,7 +1,6 @@
 -- Whether the frame is forwarded is settled in each arm; the rest is what the parts ensure.
 use mathlib.Core.Bool.{Bool, not, ◌&&◌}
 use mathlib.Core.Path.{refl, sym, ap, ◌∙◌}
-use borrow.Author.Rules.{rules}
 use Rattle.coupler.proofs.forwarding.pass_on.Goals as goal
 
 pub returns-then-forwards : goal.returns-then-forwards

@@ -1,5 +1,4 @@
 -- Each arm is the part that its medium's reader hands out.
-use borrow.Author.Rules.{rules}
 use Rattle.coupler.proofs.forwarding.payload_of.Goals as goal
 
 pub returns-then-ip : goal.returns-then-ip

@@ -1,6 +1,5 @@
 -- A refusal is the reader's; an accepted frame has a form on either medium, so that `pass_on` can take it.
 use mathlib.Core.Path.{sym, ◌∙◌}
-use borrow.Author.Rules.{rules}
 use Rattle.coupler.proofs.HearingLaws.{heard-frame, heard-nothing, heard-ranged}
 use Rattle.coupler.proofs.StepLaws.{handed, handed-nothing}
 use Rattle.coupler.specs.Step.{coupler_by, from_ip}

@@ -1,5 +1,4 @@
 -- The refusal's number, as the call ensures it.
-use borrow.Author.Rules.{rules}
 use Rattle.coupler.proofs.forwarding.refused.Goals as goal
 
 pub returns : goal.returns

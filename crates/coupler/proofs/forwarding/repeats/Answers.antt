@@ -1,5 +1,4 @@
 -- From IP nothing is a repetition; otherwise what `is_repetition` ensures.
-use borrow.Author.Rules.{rules}
 use Rattle.coupler.proofs.forwarding.repeats.Goals as goal
 
 pub returns-then-ip : goal.returns-then-ip

@@ -1,5 +1,4 @@
 -- `lay` puts the frame over the octets that were there.
-use borrow.Author.Rules.{rules}
 use Rattle.coupler.specs.Memory.{remembering}
 use Rattle.coupler.proofs.remembering.remember.Goals as goal
 

@@ -1,5 +1,4 @@
 -- Each arm settles the side.
-use borrow.Author.Rules.{rules}
 use borrow.Author.Tests.{eq-eqb, ne_eqb}
 use Rattle.coupler.specs.Memory.{remembered_on}
 use Rattle.coupler.proofs.remembering.remember_on.Goals as goal

@@ -1,5 +1,4 @@
 -- Each arm settles whether the frame was accepted.
-use borrow.Author.Rules.{rules}
 use Rattle.coupler.specs.Stages.{remembered_if}
 use Rattle.coupler.proofs.remembering.remembered_if.Goals as goal
 

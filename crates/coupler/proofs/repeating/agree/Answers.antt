@@ -1,6 +1,5 @@
 -- Frames of one length agree if their control octets do but for the repeat bit, and what is between these and the check octets is the same.
 use native.Mathlib.Omega.{arith}
-use borrow.Author.Rules.{rules}
 use Rattle.coupler.proofs.Repetition.{agree-length, agree-short, agree-told}
 use Rattle.coupler.proofs.repeating.agree.Goals as goal
 

@@ -1,6 +1,5 @@
 -- The definition, computed.
 use mathlib.Core.Path.{refl}
-use borrow.Author.Rules.{rules}
 use Rattle.coupler.specs.Memory.{unmarked}
 use Rattle.coupler.proofs.repeating.unmarked.Goals as goal
 

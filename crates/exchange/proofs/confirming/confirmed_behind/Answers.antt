@@ -1,5 +1,4 @@
 -- The channel's two tests, octets left over, and the status; the counter's test is rewritten before the channel's field is.
-use borrow.Author.Rules.{rules}
 use borrow.Author.Tests.{lt-ltb, le-ltb, eq-eqb, ne_eqb}
 use Rattle.exchange.specs.Stages.{confirmed_behind}
 use Rattle.exchange.proofs.confirming.confirmed_behind.Goals as goal

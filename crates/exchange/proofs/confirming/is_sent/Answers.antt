@@ -1,5 +1,4 @@
 -- The datagram's counter, as `octet` hands it out.
-use borrow.Author.Rules.{rules}
 use Rattle.exchange.specs.Confirming.{is_sent}
 use Rattle.exchange.proofs.confirming.is_sent.Goals as goal
 

@@ -1,5 +1,4 @@
 -- The two octets of the request; what the writer leaves is its octets laid over the room.
-use borrow.Author.Rules.{rules}
 use Rattle.frame.proofs.Writing.{wrote-laid}
 use Rattle.exchange.proofs.receiving.acknowledge.Goals as goal
 

@@ -1,5 +1,4 @@
 -- A raised counter in one arm; the channel as it was in the others.
-use borrow.Author.Rules.{rules}
 use Rattle.exchange.proofs.receiving.channel_after.Goals as goal
 
 pub returns-in-Delivered : goal.returns-in-Delivered

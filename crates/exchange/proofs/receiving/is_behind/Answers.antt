@@ -1,5 +1,4 @@
 -- The datagram's counter raised by one.
-use borrow.Author.Rules.{rules}
 use Rattle.exchange.specs.Receiving.{is_behind}
 use Rattle.exchange.proofs.receiving.is_behind.Goals as goal
 

@@ -1,5 +1,4 @@
 -- The datagram's counter, as `octet` hands it out.
-use borrow.Author.Rules.{rules}
 use Rattle.exchange.specs.Receiving.{is_expected}
 use Rattle.exchange.proofs.receiving.is_expected.Goals as goal
 

@@ -1,6 +1,5 @@
 -- The room's test, those of header and connection header, and the channel's behind them.
 use mathlib.Core.Path.{sym, ◌∙◌}
-use borrow.Author.Rules.{rules}
 use borrow.Author.Tests.{lt-ltb}
 use Rattle.exchange.proofs.ReceivingLaws.{connection-refuses, connection-passes}
 use Rattle.exchange.specs.Receiving.{received}

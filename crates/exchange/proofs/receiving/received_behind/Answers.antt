@@ -1,6 +1,5 @@
 -- The channel's two tests, then the message's.
-use mathlib.Core.Path.{◌≡◌, sym, ◌∙◌}
-use borrow.Author.Rules.{rules}
+use mathlib.Core.Path.{sym, ◌∙◌}
 use Rattle.exchange.proofs.ReceivingLaws.{behind-passed}
 use Rattle.exchange.specs.Stages.{received_behind}
 use Rattle.exchange.proofs.receiving.received_behind.Goals as goal

@@ -4,7 +4,6 @@ use mathlib.Core.List.{[]}
 use mathlib.Core.Path.{◌≡◌, sym, ◌∙◌}
 use native.Mathlib.Nat.{le_of_lt}
 use lib.ListN.{drop, drop_of_length-le}
-use borrow.Author.Rules.{rules}
 use Rattle.octets.proofs.Split.{rest-is}
 use Rattle.exchange.proofs.ReceivingLaws.{message-refused, message-taken, taken-delivered}
 use Rattle.exchange.specs.Stages.{received_message}

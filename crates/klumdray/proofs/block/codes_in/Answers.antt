@@ -1,5 +1,4 @@
 -- The eight octets, as `octet` hands them out.
-use borrow.Author.Rules.{rules}
 use Rattle.klumdray.proofs.block.codes_in.Goals as goal
 
 pub returns : goal.returns

@@ -1,7 +1,6 @@
 -- Each arm settles the test of the size.
 use mathlib.Core.Path.{refl}
 use native.Mathlib.Omega.{arith}
-use borrow.Author.Rules.{rules}
 use borrow.Author.Tests.{le-leb, lt-leb}
 use Rattle.klumdray.proofs.block.kept_in.Goals as goal
 

@@ -1,5 +1,4 @@
 -- The weights of the parts are apart, so that their sum fits; it is the definition's.
-use borrow.Author.Rules.{rules}
 use Rattle.klumdray.specs.Block.{outcome_number}
 use Rattle.klumdray.proofs.block.of_outcome.Goals as goal
 

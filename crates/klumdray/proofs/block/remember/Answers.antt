@@ -1,5 +1,4 @@
 -- Size and frame laid one behind the other, as the definition has it.
-use borrow.Author.Rules.{rules}
 use Rattle.klumdray.specs.Stages.{remembered_at}
 use Rattle.klumdray.proofs.block.remember.Goals as goal
 

@@ -1,5 +1,4 @@
 -- Each arm settles whether the frame was accepted.
-use borrow.Author.Rules.{rules}
 use Rattle.klumdray.proofs.block.remember_if.Goals as goal
 
 pub returns-then-accepted : goal.returns-then-accepted

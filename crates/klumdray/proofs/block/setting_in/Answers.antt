@@ -1,5 +1,4 @@
 -- The two octets, as `octet` hands them out.
-use borrow.Author.Rules.{rules}
 use Rattle.klumdray.proofs.block.setting_in.Goals as goal
 
 pub returns : goal.returns

@@ -1,7 +1,6 @@
 -- Each arm settles whether the number is a side; one that is below 2 is its own remainder.
 use mathlib.Core.Path.{◌∙◌}
 use native.Mathlib.Omega.{arith}
-use borrow.Author.Rules.{rules}
 use borrow.Author.Tests.{lt-ltb, le-ltb}
 use Rattle.klumdray.proofs.block.side_of.Goals as goal
 

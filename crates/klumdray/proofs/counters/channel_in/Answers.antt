@@ -1,5 +1,4 @@
 -- The three octets, as `octet_in` hands them out.
-use borrow.Author.Rules.{rules}
 use Rattle.klumdray.proofs.counters.channel_in.Goals as goal
 
 pub returns : goal.returns

@@ -2,7 +2,6 @@
 use mathlib.Core.Path.{◌∙◌}
 use native.Mathlib.Omega.{arith}
 use borrow.Author.Tests.{lt-ltb, le-ltb}
-use borrow.Author.Rules.{rules}
 use Rattle.klumdray.proofs.counters.number_of.Goals as goal
 
 pub returns-then-channel-lt256 : goal.returns-then-channel-lt256

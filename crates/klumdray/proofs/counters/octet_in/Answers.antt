@@ -1,6 +1,5 @@
 -- Behind the test of the number the place is the definition's.
 use mathlib.Core.Path.{◌∙◌}
-use borrow.Author.Rules.{rules}
 use Rattle.klumdray.proofs.ChannelLaws.{octet-place}
 use Rattle.klumdray.proofs.counters.octet_in.Goals as goal
 

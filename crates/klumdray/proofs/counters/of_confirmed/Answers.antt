@@ -1,5 +1,4 @@
 -- Each arm knows its case of the answer.
-use borrow.Author.Rules.{rules}
 use Rattle.klumdray.proofs.counters.of_confirmed.Goals as goal
 
 pub returns-in-Refused : goal.returns-in-Refused

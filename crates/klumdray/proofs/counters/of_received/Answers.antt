@@ -1,5 +1,4 @@
 -- Each arm knows its case of the answer; a message that is delivered has the payload that was handed out.
-use borrow.Author.Rules.{rules}
 use Rattle.klumdray.proofs.counters.of_received.Goals as goal
 
 pub returns-in-Delivered : goal.returns-in-Delivered

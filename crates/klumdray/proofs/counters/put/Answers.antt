@@ -1,6 +1,5 @@
 -- Behind the test of the number the place is the definition's; past the end nothing is stored, as in the definition.
 use mathlib.Core.Path.{sym}
-use borrow.Author.Rules.{rules}
 use Rattle.klumdray.proofs.ChannelLaws.{with-place, with_none}
 use Rattle.klumdray.proofs.counters.put.Goals as goal
 

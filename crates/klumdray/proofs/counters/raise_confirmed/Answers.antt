@@ -1,5 +1,4 @@
 -- The raised counter put in one arm; the block as it was in the others.
-use borrow.Author.Rules.{rules}
 use Rattle.klumdray.proofs.counters.raise_confirmed.Goals as goal
 
 pub returns-in-Raised : goal.returns-in-Raised

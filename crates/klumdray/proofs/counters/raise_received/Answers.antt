@@ -1,5 +1,4 @@
 -- The raised counter put in one arm; the block as it was in the others.
-use borrow.Author.Rules.{rules}
 use Rattle.klumdray.proofs.counters.raise_received.Goals as goal
 
 pub returns-in-Delivered : goal.returns-in-Delivered

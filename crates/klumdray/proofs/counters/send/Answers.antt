@@ -1,5 +1,4 @@
 -- The inner call, with the channel that the block holds under the number handed on.
-use borrow.Author.Rules.{rules}
 use Rattle.klumdray.proofs.counters.send.Goals as goal
 
 pub returns : goal.returns

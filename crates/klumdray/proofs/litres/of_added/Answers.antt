@@ -1,5 +1,4 @@
 -- Each arm knows its case of the sum.
-use borrow.Author.Rules.{rules}
 use Rattle.klumdray.proofs.litres.of_added.Goals as goal
 
 pub returns-in-Sum : goal.returns-in-Sum

@@ -1,5 +1,4 @@
 -- Each arm knows its case of what the payload carries.
-use borrow.Author.Rules.{rules}
 use Rattle.klumdray.proofs.litres.of_carried.Goals as goal
 
 pub returns-in-Float : goal.returns-in-Float

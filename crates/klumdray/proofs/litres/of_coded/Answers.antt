@@ -1,5 +1,4 @@
 -- Each arm knows its case of the code.
-use borrow.Author.Rules.{rules}
 use Rattle.klumdray.proofs.litres.of_coded.Goals as goal
 
 pub returns-in-Code : goal.returns-in-Code

@@ -1,5 +1,4 @@
 -- Each arm knows its case of the telegram.
-use borrow.Author.Rules.{rules}
 use Rattle.klumdray.proofs.litres.of_taken.Goals as goal
 
 pub returns-in-Increment : goal.returns-in-Increment

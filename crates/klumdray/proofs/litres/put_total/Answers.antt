@@ -1,6 +1,5 @@
 -- The octets of the four fields, laid at the front of the block.
 use mir.Facts.{to_z-of_z}
-use borrow.Author.Rules.{rules}
 use Rattle.klumdray.specs.Litres.{total_octets}
 use Rattle.klumdray.proofs.litres.put_total.Goals as goal
 

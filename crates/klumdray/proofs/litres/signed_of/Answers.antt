@@ -1,6 +1,5 @@
 -- Below 2 to the 63 the bits are the number; above, as far below -1 as they are below all ones.
 use native.Mathlib.Omega.{arith}
-use borrow.Author.Rules.{rules}
 use Rattle.klumdray.proofs.SignedBits.{plain-signed, lowered-fits, lowered-signed}
 use Rattle.klumdray.proofs.litres.signed_of.Goals as goal
 

@@ -2,7 +2,6 @@
 use mathlib.Core.Path.{◌∙◌}
 use mir.Facts.{to_z-of_z}
 use mir.Syntax.{w64}
-use borrow.Author.Rules.{rules}
 use Rattle.klumdray.specs.Litres.{total_in}
 use Rattle.klumdray.proofs.litres.total_in.Goals as goal
 

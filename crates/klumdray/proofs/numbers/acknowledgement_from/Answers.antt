@@ -1,5 +1,4 @@
 -- The three remainders, as `octet_of` hands them out.
-use borrow.Author.Rules.{rules}
 use Rattle.klumdray.proofs.numbers.acknowledgement_from.Goals as goal
 
 pub returns : goal.returns

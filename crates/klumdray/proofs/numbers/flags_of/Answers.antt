@@ -1,6 +1,5 @@
 -- The bits' weights are at most 1, 2, 12, 16 and 224: the sum is an octet.
 use native.Mathlib.Omega.{arith}
-use borrow.Author.Rules.{rules}
 use Rattle.klumdray.specs.Numbers.{flags_of}
 use Rattle.octets.proofs.Weigh.{weigh-most}
 use Rattle.klumdray.proofs.numbers.flags_of.Goals as goal

@@ -1,5 +1,4 @@
 -- The four remainders, as `octet_of` and `word_of` hand them out.
-use borrow.Author.Rules.{rules}
 use Rattle.klumdray.proofs.numbers.meaning_from.Goals as goal
 
 pub returns : goal.returns

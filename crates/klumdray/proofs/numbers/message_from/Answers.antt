@@ -1,5 +1,4 @@
 -- The code's remainder, as `octet_of` hands it out.
-use borrow.Author.Rules.{rules}
 use Rattle.klumdray.proofs.numbers.message_from.Goals as goal
 
 pub returns : goal.returns

@@ -1,5 +1,4 @@
 -- Each arm knows its case of the answer; the octets are apart, so that their sum fits.
-use borrow.Author.Rules.{rules}
 use Rattle.klumdray.proofs.numbers.of_acknowledged.Goals as goal
 
 pub returns-in-Frame : goal.returns-in-Frame

@@ -1,5 +1,4 @@
 -- The sum of the definition, with the octet of flags that the call ensures.
-use borrow.Author.Rules.{rules}
 use Rattle.klumdray.specs.Numbers.{meaning_number}
 use Rattle.klumdray.proofs.numbers.of_meaning.Goals as goal
 

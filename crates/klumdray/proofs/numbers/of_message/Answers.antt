@@ -1,6 +1,5 @@
 -- Code and mark are below 8, and a meaning's number is below 2 to the 56.
 use native.Mathlib.Omega.{arith}
-use borrow.Author.Rules.{rules}
 use Rattle.klumdray.proofs.Surface.{code-most, meaning-below}
 use Rattle.klumdray.specs.Numbers.{message_number}
 use Rattle.octets.proofs.Weigh.{weigh-most}

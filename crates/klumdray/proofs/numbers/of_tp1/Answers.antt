@@ -1,5 +1,4 @@
 -- Each arm knows its case of the answer.
-use borrow.Author.Rules.{rules}
 use Rattle.klumdray.proofs.numbers.of_tp1.Goals as goal
 
 pub returns-in-Frame : goal.returns-in-Frame

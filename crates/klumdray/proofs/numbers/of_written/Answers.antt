@@ -1,7 +1,6 @@
 -- Each arm knows its case of the answer; a size that has a number does not overflow.
 use mathlib.Core.Path.{subst}
 use native.Mathlib.Omega.{arith}
-use borrow.Author.Rules.{rules}
 use Rattle.frame.specs.declared.Written.TheVariants.{Put}
 use Rattle.klumdray.specs.Stages.{Sized}
 use Rattle.klumdray.proofs.numbers.of_written.Goals as goal

@@ -1,5 +1,4 @@
 -- The inner writer, with the two remainders, as `octet_of` hands them out.
-use borrow.Author.Rules.{rules}
 use Rattle.klumdray.proofs.numbers.write_request.Goals as goal
 
 pub returns : goal.returns

@@ -1,5 +1,4 @@
 -- Each arm knows its case of the explanation.
-use borrow.Author.Rules.{rules}
 use Rattle.klumdray.proofs.traces.of_explanation.Goals as goal
 
 pub returns-in-NotReached : goal.returns-in-NotReached

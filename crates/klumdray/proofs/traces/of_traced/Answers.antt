@@ -1,6 +1,5 @@
 -- The weights of the parts are apart, so that their sum fits; it is the definition's.
 use mathlib.Core.Path.{refl}
-use borrow.Author.Rules.{rules}
 use Rattle.klumdray.specs.Traces.{traced_number}
 use Rattle.klumdray.proofs.traces.of_traced.Goals as goal
 

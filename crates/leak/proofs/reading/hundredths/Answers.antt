@@ -3,7 +3,6 @@ use native.Mathlib.Omega.{arith}
 use Rattle.leak.specs.Float.{exponent_of}
 use Rattle.leak.proofs.Scale.{power-most, shifted-is}
 use Rattle.leak.proofs.Product.{product-fits, product_is}
-use borrow.Author.Rules.{rules}
 use Rattle.leak.proofs.reading.hundredths.Goals as goal
 
 pub overflow_cast-scale : goal.overflow_cast-scale

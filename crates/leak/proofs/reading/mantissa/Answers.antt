@@ -3,7 +3,6 @@ use mathlib.Core.Path.{sym, ◌∙◌}
 use native.Mathlib.Omega.{arith}
 use mir.Facts.{to_z-of_z}
 use Rattle.leak.proofs.Codes.{mantissa-plus, mantissa-minus, low-to_z, lowered, lowered-fits}
-use borrow.Author.Rules.{rules}
 use Rattle.leak.proofs.reading.mantissa.Goals as goal
 
 pub overflow_sub-result : goal.overflow_sub-result

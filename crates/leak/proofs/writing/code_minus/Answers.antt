@@ -3,7 +3,6 @@ use Prim.Native.Nat.{◌+◌}
 use native.Mathlib.Numerals.{add-one}
 use native.Mathlib.Omega.{arith}
 use Rattle.leak.proofs.Smallest.{exponent-most, minus-bounds, minus-code}
-use borrow.Author.Rules.{rules}
 use Rattle.leak.proofs.writing.code_minus.Goals as goal
 
 pub nearest-m-requires : goal.nearest-m-requires

@@ -1,7 +1,6 @@
 -- E is at most 15 and M at most 2,047 (`plus-bounds`), so that the code has 16 bits and is the definition's.
 use native.Mathlib.Omega.{arith}
 use Rattle.leak.proofs.Smallest.{exponent-most, plus-bounds, plus-code}
-use borrow.Author.Rules.{rules}
 use Rattle.leak.proofs.writing.code_plus.Goals as goal
 
 pub nearest-m-requires : goal.nearest-m-requires

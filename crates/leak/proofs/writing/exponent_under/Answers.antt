@@ -1,10 +1,9 @@
 -- The loop keeps that the first exponent which serves, from the one at hand on, is the one wanted: found here (`under-here`), further on
 -- (`under_next`), or the last (`under_last`).
-use Prim.Native.Nat.{◌≤◌, ◌-◌}
-use mathlib.Core.Path.{◌≡◌, refl}
+use mathlib.Core.Path.{refl}
 use native.Mathlib.Numerals.{add-one}
 use native.Mathlib.Omega.{arith}
-use Rattle.leak.specs.Stages.{first_under, exponent_under}
+use Rattle.leak.specs.Stages.{exponent_under}
 use Rattle.leak.proofs.Smallest.{under-here, under_next, under_last}
 use Rattle.leak.proofs.writing.exponent_under.Goals as goal
 

@@ -1,10 +1,7 @@
 -- The loop keeps that the first exponent which serves, from the one at hand on, is the one wanted: found here (`under-here`), further on
 use Prim.Native.Nat.{◌≤◌, ◌-◌}
-use mathlib.Core.Path.{◌≡◌, refl}
-use native.Mathlib.Numerals.{add-one}
-use native.Mathlib.Omega.{arith}
+use mathlib.Core.Path.{◌≡◌}
 use Rattle.leak.specs.Stages.{first_under, exponent_under}
-use Rattle.leak.proofs.Smallest.{under-here, under_next, under_last}
 use Rattle.leak.proofs.writing.exponent_under.Given as goal
 
 abbrev pub invariant-loop-exponent : goal.invariant-loop-exponent

@@ -5,7 +5,6 @@ use native.Mathlib.Omega.{arith}
 use lib.Pow.{pow_pos}
 use Rattle.leak.proofs.Scale.{shifted-is}
 use Rattle.leak.proofs.NearestLaws.{nearest-down, nearest-up, nearest-tie}
-use borrow.Author.Rules.{rules}
 use Rattle.leak.proofs.writing.nearest.Goals as goal
 
 pub nonzero_div-whole : goal.nonzero_div-whole

@@ -1,5 +1,4 @@
 -- Each arm settles whether the line is an area's.
-use borrow.Author.Rules.{rules}
 use borrow.Author.Tests.{eq-eqb, ne_eqb}
 use Rattle.passing.specs.Passing.{is_below}
 use Rattle.passing.proofs.addresses.is_below.Goals as goal

@@ -1,5 +1,4 @@
 -- The octet of the table, as `octet` hands it out; a shift is a division.
-use borrow.Author.Rules.{rules}
 use Rattle.passing.specs.Passing.{is_in_table}
 use Rattle.passing.proofs.addresses.is_in_table.Goals as goal
 

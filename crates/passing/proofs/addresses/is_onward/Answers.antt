@@ -1,5 +1,4 @@
 -- Each arm settles the direction.
-use borrow.Author.Rules.{rules}
 use borrow.Author.Tests.{eq-eqb, ne_eqb}
 use Rattle.passing.specs.Passing.{is_onward}
 use Rattle.passing.proofs.addresses.is_onward.Goals as goal

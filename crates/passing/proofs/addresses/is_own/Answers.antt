@@ -1,6 +1,5 @@
 -- The definition's two tests, in its order.
 use mathlib.Core.Path.{refl}
-use borrow.Author.Rules.{rules}
 use Rattle.passing.specs.Passing.{is_own}
 use Rattle.passing.proofs.addresses.is_own.Goals as goal
 

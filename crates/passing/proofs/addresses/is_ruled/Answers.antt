@@ -1,5 +1,4 @@
 -- Each arm settles the class.
-use borrow.Author.Rules.{rules}
 use borrow.Author.Tests.{eq-eqb, ne_eqb}
 use Rattle.passing.specs.Passing.{is_ruled}
 use Rattle.passing.proofs.addresses.is_ruled.Goals as goal

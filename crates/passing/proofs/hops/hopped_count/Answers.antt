@@ -1,7 +1,6 @@
 -- Each arm settles whether the count stays; below 1 the definition stops at 0 too.
 use mathlib.Core.Path.{sym, ◌∙◌}
 use native.Mathlib.Omega.{arith}
-use borrow.Author.Rules.{rules}
 use Rattle.passing.proofs.hops.hopped_count.Goals as goal
 
 pub returns-then-stays : goal.returns-then-stays

@@ -1,5 +1,4 @@
 -- Both rows, as the calls ensure them.
-use borrow.Author.Rules.{rules}
 use Rattle.passing.specs.Settings.{are_codes}
 use Rattle.passing.proofs.settings.are_codes.Goals as goal
 

@@ -1,6 +1,5 @@
 -- The definition's four tests, in its order.
 use mathlib.Core.Path.{refl}
-use borrow.Author.Rules.{rules}
 use Rattle.passing.specs.Settings.{asks_table}
 use Rattle.passing.proofs.settings.asks_table.Goals as goal
 

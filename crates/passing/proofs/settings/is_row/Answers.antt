@@ -1,5 +1,4 @@
 -- The four codes of the row, as the calls ensure them.
-use borrow.Author.Rules.{rules}
 use Rattle.passing.specs.Settings.{is_row}
 use Rattle.passing.proofs.settings.is_row.Goals as goal
 

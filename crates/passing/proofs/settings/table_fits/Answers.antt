@@ -1,6 +1,5 @@
 -- The size decides by itself, or what `asks_table` ensures.
 use mathlib.Core.Path.{refl}
-use borrow.Author.Rules.{rules}
 use borrow.Author.Tests.{eq-eqb, ne_eqb}
 use Rattle.passing.specs.Settings.{table_fits}
 use Rattle.passing.proofs.settings.table_fits.Goals as goal

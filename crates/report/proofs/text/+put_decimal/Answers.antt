@@ -1,7 +1,7 @@
 -- A number below 10 is one digit; otherwise the digits of its tenth are put first, and the tenth is less.
 use Prim.Native.Nat.{◌/◌, ◌%◌, ◌≤◌}
 use mathlib.Core.List.{List}
-use mathlib.Core.Path.{◌∙◌, subst}
+use mathlib.Core.Path.{subst}
 use native.Mathlib.Omega.{arith}
 use Rattle.report.proofs.Decimal.{decimal-one, puts_one, fits_more, puts-more}
 use Rattle.report.proofs.Puts.{fits-first, fits-then}

@@ -1,6 +1,5 @@
 -- The pieces from left to right, each behind those before it.
 -- LOOK: 13 arguments for 9 needs
-use borrow.Author.Rules.{rules}
 use Rattle.report.proofs.Line.{fits-area, fits-point, fits_count, fits-crossed, fits-end, put-line}
 use Rattle.report.proofs.text.put_line.Goals as goal
 

@@ -1,8 +1,6 @@
 -- Each turn puts the next entry's line; when fewer than three octets are left, no text is.
-use Prim.Native.Nat.{◌-◌}
 use native.Mathlib.Omega.{arith}
-use lib.ListN.{length}
-use Rattle.report.proofs.List.{Rest, rest-none, fits-entry, rest_more, rest_all}
+use Rattle.report.proofs.List.{rest-none, fits-entry, rest_more, rest_all}
 use Rattle.report.proofs.text.put_list.Goals as goal
 
 pub loop-from-init : goal.loop-from-init

@@ -1,8 +1,7 @@
 -- Each turn puts the next entry's line; when fewer than three octets are left, no text is.
 use Prim.Native.Nat.{◌-◌}
-use native.Mathlib.Omega.{arith}
 use lib.ListN.{length}
-use Rattle.report.proofs.List.{Rest, rest-none, fits-entry, rest_more, rest_all}
+use Rattle.report.proofs.List.{Rest}
 use Rattle.report.proofs.text.put_list.Given as goal
 
 abbrev pub invariant-loop-from : goal.invariant-loop-from

@@ -1,5 +1,4 @@
 -- The word, and the number's digits behind it.
-use borrow.Author.Rules.{rules}
 use Rattle.report.proofs.Puts.{fits-first, fits-then, puts_then}
 use Rattle.report.specs.Text.{decimal, told}
 use Rattle.report.proofs.text.put_told.Goals as goal

@@ -1,6 +1,5 @@
 -- The word with its number, and the end of the line behind it.
 -- LOOK: 5 arguments for 4 needs
-use borrow.Author.Rules.{rules}
 use Rattle.report.proofs.Puts.{fits-first, fits-then, puts_then}
 use Rattle.report.specs.Ascii.{ascii}
 use Rattle.report.specs.Text.{told, told_line}

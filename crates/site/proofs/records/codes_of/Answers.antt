@@ -1,6 +1,5 @@
 -- The eight octets, each as the call ensures it.
 use mathlib.Core.Path.{refl}
-use borrow.Author.Rules.{rules}
 use Rattle.site.specs.Records.{codes_of}
 use Rattle.site.proofs.records.codes_of.Goals as goal
 

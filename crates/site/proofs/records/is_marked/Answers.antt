@@ -1,6 +1,5 @@
 -- Both octets of the mark.
 use mathlib.Core.Path.{refl}
-use borrow.Author.Rules.{rules}
 use Rattle.site.specs.Records.{is_marked}
 use Rattle.site.proofs.records.is_marked.Goals as goal
 

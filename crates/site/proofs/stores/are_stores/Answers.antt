@@ -1,6 +1,5 @@
 -- Both stores by the one test.
 use mathlib.Core.Path.{refl}
-use borrow.Author.Rules.{rules}
 use Rattle.site.specs.Stores.{are_stores}
 use Rattle.site.proofs.stores.are_stores.Goals as goal
 

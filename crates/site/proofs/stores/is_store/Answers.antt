@@ -1,6 +1,5 @@
 -- The definition word for word.
 use mathlib.Core.Path.{refl}
-use borrow.Author.Rules.{rules}
 use Rattle.site.specs.Stores.{is_store}
 use Rattle.site.proofs.stores.is_store.Goals as goal
 

@@ -1,7 +1,6 @@
 -- The number chooses the store; the part of it is the callee's.
 use mathlib.Core.Path.{refl}
 use native.Mathlib.Omega.{arith}
-use borrow.Author.Rules.{rules}
 use borrow.Author.Tests.{lt-ltb, le-ltb}
 use Rattle.site.specs.Stores.{table_of}
 use Rattle.site.proofs.stores.table_of.Goals as goal

@@ -1,6 +1,5 @@
 -- Each arm settles the format, and with it which octet LG is in.
 use mathlib.Core.Path.{sym, ◌∙◌}
-use borrow.Author.Rules.{rules}
 use Rattle.tp1.specs.Reading.{frame_size}
 use Rattle.tp1.proofs.reading.frame_size.Goals as goal
 

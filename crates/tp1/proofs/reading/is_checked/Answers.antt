@@ -2,7 +2,6 @@
 use mathlib.Core.Path.{sym}
 use native.Mathlib.Omega.{arith}
 use lib.Seq.{length-take-le}
-use borrow.Author.Rules.{rules}
 use Rattle.tp1.specs.Reading.{is_checked}
 use Rattle.tp1.proofs.reading.is_checked.Goals as goal
 

@@ -1,6 +1,5 @@
 -- A standard frame has no such octet; of an extended one, the octet of LG, as the call ensures it.
 use mathlib.Core.Path.{sym, ◌∙◌}
-use borrow.Author.Rules.{rules}
 use Rattle.tp1.specs.Reading.{is_escape}
 use Rattle.tp1.proofs.reading.is_escape.Goals as goal
 

@@ -1,5 +1,4 @@
 -- The first octet, as `octet` hands it out.
-use borrow.Author.Rules.{rules}
 use Rattle.tp1.specs.Reading.{is_extended}
 use Rattle.tp1.proofs.reading.is_extended.Goals as goal
 

@@ -1,7 +1,6 @@
 -- Each return rewrites the last three tests by what led there.
 use mathlib.Core.Path.{sym, ◌∙◌}
 use native.Mathlib.Omega.{arith}
-use borrow.Author.Rules.{rules}
 use borrow.Author.Tests.{lt-ltb, le-ltb}
 use Rattle.tp1.proofs.Size.{size-least}
 use Rattle.tp1.specs.Stages.{read_from}

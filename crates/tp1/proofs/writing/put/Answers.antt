@@ -1,6 +1,5 @@
 -- Head, payload and check octet, laid one behind the other: `frame-room`, whose hypotheses are what the three calls ensure.
 use native.Mathlib.Omega.{arith}
-use borrow.Author.Rules.{rules}
 use Rattle.frame.proofs.Valid.{ranges-of, most-payload}
 use Rattle.tp1.proofs.LayoutLaws.{head-least, frame-room}
 use Rattle.tp1.proofs.writing.put.Goals as goal

@@ -1,5 +1,4 @@
 -- Each arm settles the format, and with it which head stands there.
-use borrow.Author.Rules.{rules}
 use Rattle.tp1.proofs.LayoutLaws.{head-extended, head-standard}
 use Rattle.tp1.proofs.writing.put_head.Goals as goal
 

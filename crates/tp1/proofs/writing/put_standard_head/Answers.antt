@@ -1,6 +1,5 @@
 -- The head is the list of what the calls ensure; `lay` puts it over the room, and its octets are read back from the list.
 use mathlib.Core.Path.{refl}
-use borrow.Author.Rules.{rules}
 use Rattle.tp1.proofs.writing.put_standard_head.Goals as goal
 
 pub returns : goal.returns

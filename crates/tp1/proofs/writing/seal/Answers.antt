@@ -3,7 +3,6 @@ use Prim.Native.Nat.{◌-◌}
 use mathlib.Core.Path.{◌≡◌, refl, ap, ◌∙◌}
 use native.Mathlib.Omega.{arith}
 use lib.Bits.{bit_xor}
-use borrow.Author.Rules.{rules}
 use Rattle.octets.specs.Check.{xor_from}
 use Rattle.octets.proofs.ExclusiveOr.{check-behind}
 use Rattle.tp1.proofs.writing.seal.Goals as goal

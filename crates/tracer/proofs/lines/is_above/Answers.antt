@@ -1,5 +1,4 @@
 -- The line, its main side and 00h are all the lines on the way: `three-sides`.
-use borrow.Author.Rules.{rules}
 use Rattle.tracer.proofs.Paths.{three-sides}
 use Rattle.tracer.proofs.lines.is_above.Goals as goal
 

@@ -1,7 +1,6 @@
 -- What stands at the front of the room are the entries of the lines so far.
-use Prim.Native.Nat.{◌-◌}
 use native.Mathlib.Omega.{arith}
-use Rattle.tracer.proofs.RoomLaws.{Listing, listing_none, listing-more, listing-all}
+use Rattle.tracer.proofs.RoomLaws.{listing_none, listing-more, listing-all}
 use Rattle.tracer.proofs.listing.list.Goals as goal
 
 pub loop-line-init : goal.loop-line-init

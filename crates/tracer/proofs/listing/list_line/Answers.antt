@@ -1,5 +1,4 @@
 -- A line not reached has no octets; of one that is reached the entry holds the definition's three.
-use borrow.Author.Rules.{rules}
 use Rattle.tracer.proofs.RoomLaws.{line-none, line-laid}
 use Rattle.tracer.proofs.listing.list_line.Goals as goal
 

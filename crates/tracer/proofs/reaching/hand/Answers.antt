@@ -1,6 +1,5 @@
 -- The three tests are the definition's own.
 use native.Mathlib.Omega.{arith}
-use borrow.Author.Rules.{rules}
 use Rattle.tracer.specs.Listing.{lasts}
 use Rattle.tracer.specs.Reaching.{handed}
 use Rattle.tracer.proofs.reaching.hand.Goals as goal

@@ -1,7 +1,6 @@
 -- On the way up the climb says it, elsewhere the coupler above the line.
 use mathlib.Core.Path.{sym, ◌∙◌}
 use native.Mathlib.Omega.{arith}
-use borrow.Author.Rules.{rules}
 use Rattle.tracer.proofs.Paths.{depth-two}
 use Rattle.tracer.proofs.ReachingLaws.{reach-climbed}
 use Rattle.tracer.specs.Reaching.{reach_by}

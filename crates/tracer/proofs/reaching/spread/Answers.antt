@@ -1,10 +1,8 @@
 -- The lines below the one at hand are known; its main side is one of them.
-use Prim.Native.Nat.{◌-◌}
-use mathlib.Core.Logic.{⊎_elim}
 use mathlib.Core.Path.{refl}
 use native.Mathlib.Omega.{arith}
 use borrow.Author.Tests.{lt-ltb, le-ltb}
-use Rattle.tracer.proofs.ReachingLaws.{Spreading, spreading-none, made-few, spreading-all, spreading-more}
+use Rattle.tracer.proofs.ReachingLaws.{spreading-none, made-few, spreading-all, spreading-more}
 use Rattle.tracer.specs.Lines.{main_side}
 use Rattle.tracer.specs.Reaching.{marked}
 use Rattle.tracer.proofs.reaching.spread.Goals as goal
@@ -38,8 +36,8 @@ loop-line-preserved c =
     let a = c.args in
     spreading-more a.down.now a.up.now c.loop-line.invariant c.loop-line-test.true c.reach_of-reached.ensures
     (elim c.if-reached-gt1.branch [
-      then-reached-gt1 w ↦ rw (lt-ltb 1 _ w.if-reached-gt1.true) w.forwardings-is
-    | else-reached-gt1 w ↦ rw (le-ltb 1 _ w.if-reached-gt1.false) (omega (arith, w.forwardings-is))
+      | then-reached-gt1 w ↦ rw (lt-ltb 1 _ w.if-reached-gt1.true) w.forwardings-is
+      | else-reached-gt1 w ↦ rw (le-ltb 1 _ w.if-reached-gt1.false) (omega (arith, w.forwardings-is))
     ])
 
 pub returns : goal.returns

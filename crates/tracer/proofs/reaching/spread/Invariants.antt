@@ -1,11 +1,6 @@
 -- The lines below the one at hand are known; its main side is one of them.
 use Prim.Native.Nat.{◌-◌}
-use mathlib.Core.Logic.{⊎_elim}
-use mathlib.Core.Path.{refl}
-use native.Mathlib.Omega.{arith}
-use borrow.Author.Tests.{lt-ltb, le-ltb}
-use Rattle.tracer.proofs.ReachingLaws.{Spreading, spreading-none, made-few, spreading-all, spreading-more}
-use Rattle.tracer.specs.Lines.{main_side}
+use Rattle.tracer.proofs.ReachingLaws.{Spreading}
 use Rattle.tracer.specs.Reaching.{marked}
 use Rattle.tracer.proofs.reaching.spread.Given as goal
 

@@ -1,6 +1,5 @@
 -- A stopped telegram stays stopped; one that is going goes on if the coupler lets it pass.
 use mathlib.Core.Path.{◌∙◌}
-use borrow.Author.Rules.{rules}
 use Rattle.site.proofs.StartLaws.{noted-passage}
 use Rattle.site.specs.Stores.{stores}
 use Rattle.tracer.proofs.WalkingLaws.{hand-stopped, hand-goes, hand-stops}
