@@ -49,7 +49,7 @@ pub struct Memory {
     pub sub: Remembered,
 }
 
-#[derive(Drop)]
+#[derive(Clone, Copy)]
 pub struct Stepped {
     pub outcome: Outcome,
     pub memory: Memory,

@@ -28,7 +28,7 @@ pub enum Received {
     Refused(Refusal),
 }
 
-#[derive(Drop)]
+#[derive(Clone, Copy)]
 pub struct Taken {
     pub answer: Received,
     pub table: Table,
@@ -42,7 +42,7 @@ pub enum Confirmed {
     Refused(Refusal),
 }
 
-#[derive(Drop)]
+#[derive(Clone, Copy)]
 pub struct Settled {
     pub answer: Confirmed,
     pub table: Table,

@@ -19,14 +19,14 @@ use passing::Passage;
 
 // Whether a site is well-formed, and for each of the 256 lines where the record of its coupler starts;
 // FFFFh where there is none, and for every line of a site that is refused.
-#[derive(Drop)]
+#[derive(Clone, Copy)]
 pub struct Surveyed {
     pub verdict: Verdict,
     pub starts: [u16; 256],
 }
 
 // A mark for each of the 256 lines, of its coupler: main to sub and sub to main.
-#[derive(Drop)]
+#[derive(Clone, Copy)]
 pub struct BothWays {
     pub down: [bool; 256],
     pub up: [bool; 256],

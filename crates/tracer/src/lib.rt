@@ -29,7 +29,7 @@ pub struct Query {
 }
 
 // "The result also carries the number of forwardings made on the site".
-#[derive(Drop)]
+#[derive(Clone, Copy)]
 pub struct Traced {
     pub number: u8,
     pub lines: usize,
@@ -37,7 +37,7 @@ pub struct Traced {
 }
 
 // For each line how many lines the telegram has been put on when it comes there, 0 where it does not come.
-#[derive(Drop)]
+#[derive(Clone, Copy)]
 pub struct Arrivals {
     pub lines: [u8; 256],
     pub forwardings: usize,
