@@ -2,7 +2,7 @@
 tools/mark-apart writes it, tools/check-apart tests it.
 
 `noalias` is put on the pointer of every slice that an exported function is lent to be written (`&mut [u8]` in
-crates/klumdray/src/lib.rt), and on nothing else. LLVM reads it so: while the call runs, an octet that is reached by
+crates/klumdray_c/src/lib.rt), and on nothing else. LLVM reads it so: while the call runs, an octet that is reached by
 this pointer, and that anything writes, is reached by no pointer that is not derived from this one. Why it holds:
 
 - Inside, it is the language's rule for `&mut`: nothing else may reach what is lent to be written. An exported
@@ -23,7 +23,7 @@ from collections import namedtuple
 
 from sources import ROOT, without_comments
 
-SOURCE = ROOT / "crates" / "klumdray" / "src" / "lib.rt"
+SOURCE = ROOT / "crates" / "klumdray_c" / "src" / "lib.rt"
 
 # `kinds` are the types of the parameters in the module, `written` the places of the pointers that get the attribute.
 Export = namedtuple("Export", "answer kinds written")

@@ -16,7 +16,7 @@ LONGEST=600
 reason='' compiler=() support=() behind=() player=() emulator=() table=full tools=() packages=()
 
 kit() {
-    echo "${RATTLE_HOME:-$(dirname "$(dirname "$(readlink -f "$(command -v rt)")")")}/on/$(uname -m)/toolchain/bin"
+    echo "$(dirname "$(dirname "$(readlink -f "$(command -v rt)")")")/toolchain/bin"
 }
 
 # What the choices below have in common: a board, or a machine with an operating system.
@@ -73,7 +73,7 @@ choose_machine() { # TARGET
         packages=(nodejs gcc)
         ;;
     aarch64) choose_hosted aarch64 qemu-aarch64 gcc-aarch64-linux-gnu libc6-dev-arm64-cross qemu-user ;;
-    x86-64) choose_hosted x86_64 "$(kit)/qemu-x86_64" gcc-x86-64-linux-gnu libc6-dev-amd64-cross ;;
+    x86-64) choose_hosted x86_64 qemu-x86_64 gcc-x86-64-linux-gnu libc6-dev-amd64-cross qemu-user ;;
     *)
         reason="no such target"
         return 1

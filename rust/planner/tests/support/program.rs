@@ -16,34 +16,24 @@ pub fn program(octets: &[u8]) -> Ended {
     running.wait_with_output().expect("it ends").into()
 }
 
-/// Its code is for x86-64. Elsewhere it runs as `rt` runs it: under the kit's emulator, with the
-/// kit's loader and C library.
+/// Its code is for x86-64. Elsewhere it runs under an emulator, with the kit's loader and C library.
 fn command() -> Command {
-    let program = root().join("target/bin/trace");
-    let missing = format!("{} is missing; run: rt check trace", program.display());
+    let program = root().join("crates/trace/out/trace");
+    let missing = format!("{} is missing; run: rt run, there", program.display());
     assert!(program.is_file(), "{missing}");
     if ARCH == "x86_64" {
         return Command::new(program);
     }
-    let tools = kit().join("on").join(ARCH).join("toolchain");
-    let emulator = tools.join("bin/qemu-x86_64");
-    let mut command = Command::new(if emulator.is_file() {
-        emulator
-    } else {
-        "qemu-x86_64".into()
-    });
-    let libraries = tools.join("lib");
+    let libraries = kit().join("toolchain/lib");
     let loader = libraries.join("ld-linux-x86-64.so.2");
+    let mut command = Command::new("qemu-x86_64");
     command.arg(loader).arg("--library-path").arg(libraries);
     command.arg(program);
     command
 }
 
-/// As tools/emulate-library finds it: RATTLE_HOME, or the folder above that of `rt`.
+/// As tools/emulate-library finds it: the folder above that of `rt`.
 fn kit() -> PathBuf {
-    if let Some(kit) = env::var_os("RATTLE_HOME") {
-        return kit.into();
-    }
     let path = env::var_os("PATH").unwrap_or_default();
     let mut places = env::split_paths(&path).map(|folder| folder.join("rt"));
     let rt = places
