@@ -1,8 +1,8 @@
 """What the C header, the Rust bindings and the emulated library say alike: the refusals, from the table in
 crates/frame/specs/Refusals.antt, and the calls, as include/klumdray.h declares them, with the checked form
 of each that writes. And the crate klumdray_c, which is compiled for them: for each public call of the crate
-klumdray an export with its name, its parameters and its clauses, that does nothing but call it.
-tools/make-surface writes all this, tools/check-surface compares."""
+klumdray an export with its name, its parameters and its clauses, that does nothing but call it, and a law that
+the two have one contract. tools/make-surface writes all this, tools/check-surface compares."""
 
 import re
 import textwrap
@@ -13,6 +13,7 @@ from sources import ROOT
 TABLE = ROOT / "crates" / "frame" / "specs" / "Refusals.antt"
 LIBRARY = ROOT / "crates" / "klumdray" / "src" / "lib.rt"
 EXPORTS = ROOT / "crates" / "klumdray_c" / "src" / "lib.rt"
+SAME = ROOT / "crates" / "klumdray_c" / "proofs" / "Same.antt"
 HEADER = ROOT / "include" / "klumdray.h"
 CONSTANTS = ROOT / "rust" / "klumdray" / "src" / "refusal.rs"
 EXTERN = ROOT / "rust" / "klumdray" / "src" / "raw.rs"
@@ -129,6 +130,44 @@ def surface_crate():
         text += laid_out("", f'pub extern "C" fn {name}{lifetimes}', parameters, f" -> {answer}") + "\n" + clauses + "{\n"
         text += laid_out("    ", f"klumdray::{name}", [part.split(":")[0] for part in parameters], "") + "\n}\n"
     return text
+
+
+def same_contracts():
+    """The laws of the crate klumdray_c: each export's contract is that of the call that it calls."""
+    names = [name for name, *_ in PROVED.findall(LIBRARY.read_text())]
+    text = """-- Each export asks and promises what the call of its name in the crate klumdray does: its contract, as the toolchain reads it off the source,
+-- is that call's. So what is proved of those contracts is proved of the exports'. tools/make-surface writes this file.
+use Prim.Native.Nat.{ℕ}
+use mathlib.Core.List.{List}
+use mathlib.Core.Path.{◌≡◌, refl}
+use contract.Lifetimes.{Lfts}
+use denote.Triple.Clauses.{AtExit}
+use borrow.Fn.Kinds.{ParamKind, ResultKind, In, Out, Dens, res_t, ended_of}
+use borrow.Fn.World.{World, Pr}
+"""
+    laws = """
+-- A contract: its parameters and its result; the claims that are read off it, on the parameters at entry, and on the result and the parameters at
+-- exit; and the clauses themselves, at every model of the logic.
+pub record Contract : Type 3 where
+  pub lifetimes : ℕ
+  pub params : List (ParamKind lifetimes)
+  pub result : ResultKind lifetimes
+  pub pre : In lifetimes params
+  pub post : Out lifetimes params result
+  pub requires : (κs : Lfts lifetimes) → Dens κs params → (w : World) → Pr w
+  pub ensures : (κs : Lfts lifetimes) → Dens κs params → (res_t result κs).Denot → AtExit (ended_of lifetimes params result) κs → (w : World) → Pr w
+"""
+    for name in names:
+        short = name.removeprefix("klumdray_").replace("_", "-")
+        read = []
+        for crate, here in (("klumdray_c", "c-" + short), ("klumdray", short)):
+            text += f"use Rattle.{crate}.proofs.{name}.Kinds as {here}-kinds\nuse Rattle.{crate}.proofs.{name}.Reads as {here}-reads\n"
+            read.append(
+                f"record {{ lifetimes = _; params = {here}-kinds.ps; result = {here}-kinds.r; pre = {here}-reads.Pre; post = {here}-reads.Post; "
+                f"requires = λ κs a. {here}-reads.requires κs a tt; ensures = λ κs a. {here}-reads.ensures κs a tt }}"
+            )
+        laws += f"\npub {short}-same : ◌≡◌ {{A = Contract}} ({read[0]}) ({read[1]})\n{short}-same = refl\n"
+    return text + laws
 
 
 def arguments(call):
@@ -250,6 +289,7 @@ def emulated():
 # Each file, what stands before the part that is written, the part, and what stands behind it.
 PARTS = [
     (EXPORTS, "", surface_crate, ""),
+    (SAME, "", same_contracts, ""),
     (HEADER, " * number. A refused call has written nothing.\n *\n", header_table, " *\n"),
     (HEADER, "    static const char *const words[] = {\n", header_words, "    };\n"),
     (HEADER, "/* Written by tools/make-surface from the calls above. */\n", checked, "/* The checked forms end here. */\n"),
