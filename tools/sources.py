@@ -14,6 +14,8 @@ ROOT = pathlib.Path(__file__).resolve().parent.parent
 Function = namedtuple("Function", "crate path home public contract body uses file place")
 Edit = namedtuple("Edit", "crate name file text pairs")
 
+# The word of a clause, and its name if it has one.
+CLAUSE = re.compile(r"\b(requires|ensures)(?:\s+\w+)?\s*$")
 FN = re.compile(r'\b(pub(?:\([^)]*\))?\s+)?(?:extern\s+"C"\s+)?fn\s+(\w+)')
 IMPL = re.compile(r"^impl\s+(\w+)\s*\{", re.M)
 # What stands at the margin before an item.
@@ -57,16 +59,20 @@ def parts(text, at):
     while True:
         begin = text.index("{", at)
         end = closing(text, begin)
-        word = (text[at:begin].split() or [""])[-1]
-        if word not in ("requires", "ensures"):
+        clause = CLAUSE.search(text[at:begin])
+        if not clause:
             yield "", begin, end
             return
-        yield word, begin, end
+        yield clause[1], begin, end
         at = end
 
 
 def clauses_and_body(text, at):
-    inside = {word: " ".join(text[begin + 1 : end - 1].split()) for word, begin, end in parts(text, at)}
+    """What the clauses of each word say, those of one word one after the other, and the body."""
+    inside = {}
+    for word, begin, end in parts(text, at):
+        inside.setdefault(word, []).append(" ".join(text[begin + 1 : end - 1].split()))
+    inside = {word: ", ".join(said) for word, said in inside.items()}
     return inside, inside.pop("")
 
 
@@ -184,9 +190,9 @@ def functions(crate):
 @functools.cache
 def edits(crate=None):
     found = []
-    for file in sorted(ROOT.glob(f"crates/{crate or '*'}/must-fail/programs/*.edit")):
+    for file in sorted(ROOT.glob(f"crates/{crate or '*'}/wrong-programs/*.edit")):
         text = file.read_text()
-        found.append(Edit(file.parents[2].name, file.stem, file, text, list(pairs(text))))
+        found.append(Edit(file.parents[1].name, file.stem, file, text, list(pairs(text))))
     return found
 
 
