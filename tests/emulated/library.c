@@ -1,5 +1,5 @@
 /*
- * The x86-64 side: a program around the proved library, which runs under the kit's emulator and
+ * The x86-64 side: a program around the proved library, which runs under an emulator and
  * does one call for each request on its standard input. It has no C library, since a machine of
  * another kind has none for x86-64.
  */
