@@ -4,7 +4,7 @@ import re
 
 import sources
 
-EMPTY = "ensures { λ _. ⌜ Unit {0} ⌝ }"
+EMPTY = "ensures { Unit {0} }"
 
 
 class Copy:
