@@ -4,9 +4,6 @@ import re
 
 import sources
 
-EMPTY = "ensures { Unit {0} }"
-
-
 class Copy:
     """The function of a wrong program, beside the right ones."""
 
@@ -22,7 +19,7 @@ class Copy:
         if self.emptied:
             for word, first, last in reversed(list(sources.parts(text, sources.FN.match(text).end()))):
                 if word == "ensures":
-                    text = text[: text.rindex(word, 0, first)] + EMPTY + text[last:]
+                    text = text[: text.rindex(word, 0, first)].rstrip() + text[last:]
         text = text.replace('extern "C" ', "", 1)
         return re.sub(rf"(?<![:.\w]){self.function.home[-1]}(?=[(<])", self.name, text)
 
