@@ -87,6 +87,8 @@ def check(folder, crate, files, kept):
         words = ["rt", "check", "--jobs", "1"]
         done = subprocess.run(words, cwd=folder / "crates" / crate, stdout=subprocess.PIPE, stderr=subprocess.STDOUT, text=True, errors="replace")
         log.write_text(f"{done.stdout}\nstatus={done.returncode}\n")
+        # An `rt` at the top of this tree would read it too.
+        (folder / "crates.txt").unlink()
         if done.returncode in (0, 1):
             stamp.write_text(sum)
     return log.read_text()
