@@ -1,13 +1,16 @@
-"""Checks of a crate with other texts, each in a repository of its own below target/, whose other crates are those
-that are built here; so several run side by side, and each has only its crate to check. A check begins with what
-one of the crate as it stands has left, and its log is kept as long as nothing that it read has changed."""
+"""Checks of a crate with other texts, each in a repository of its own, whose other crates are those that are built
+here; so several run side by side, and each has only its crate to check. A check begins with what one of the crate as
+it stands has left, and its log is kept below target/ as long as nothing that it read has changed. The repositories
+themselves are temporary and outside of this one, where `rt ci` refuses every crate that it does not know."""
 
 import concurrent.futures
 import functools
 import hashlib
 import os
+import pathlib
 import shutil
 import subprocess
+import tempfile
 
 import sources
 from sources import ROOT
@@ -61,7 +64,6 @@ def link(one, other):
 
 def lay_out(folder, crate, files, kept):
     """A repository with one crate of these files, over what a check of it kept, and the crates that it uses."""
-    shutil.rmtree(folder, ignore_errors=True)
     for name in below(crate):
         for part in (*PARTS, "out/rlib"):
             if (ROOT / "crates" / name / part).is_dir():
@@ -75,37 +77,35 @@ def lay_out(folder, crate, files, kept):
     (folder / "crates.txt").write_text("".join(f"{lines()[name]}\n" for name in [*below(crate), crate]))
     if (ROOT / "HANDLES").is_file():
         shutil.copy2(ROOT / "HANDLES", folder)
+    # The top of a repository, so that rt looks no further up.
+    (folder / ".git").mkdir()
 
 
-def check(folder, crate, files, kept):
-    """The log of a check of a crate with these files: that which an earlier check left, or a new one's."""
+def check(folder, crate, files, kept, left=None):
+    """The log of a check of a crate with these files: that which an earlier check left, or a new one's; `left`
+    is where the check's work goes, if anywhere."""
     log, stamp, sum = folder / "log", folder / "sum", sum_of(crate, files)
     if not (log.is_file() and stamp.is_file() and stamp.read_text() == sum):
-        lay_out(folder, crate, files, kept)
-        # The top of a repository, so that rt looks no further up.
-        (folder / ".git").mkdir()
-        words = ["rt", "check", "--jobs", "1"]
-        done = subprocess.run(words, cwd=folder / "crates" / crate, stdout=subprocess.PIPE, stderr=subprocess.STDOUT, text=True, errors="replace")
+        with tempfile.TemporaryDirectory(prefix="klumdray-") as made:
+            work = pathlib.Path(made)
+            lay_out(work, crate, files, kept)
+            words = ["rt", "check", "--jobs", "1"]
+            done = subprocess.run(words, cwd=work / "crates" / crate, stdout=subprocess.PIPE, stderr=subprocess.STDOUT, text=True, errors="replace")
+            shutil.rmtree(folder, ignore_errors=True)
+            folder.mkdir(parents=True)
+            if left and (work / "crates" / crate / "out" / "incremental").is_dir():
+                shutil.move(work / "crates" / crate / "out" / "incremental", left)
         log.write_text(f"{done.stdout}\nstatus={done.returncode}\n")
-        # An `rt` at the top of this tree would read it too.
-        (folder / "crates.txt").unlink()
         if done.returncode in (0, 1):
             stamp.write_text(sum)
     return log.read_text()
 
 
-def drop(folder, crate):
-    """Removes what a log does not need to be read."""
-    for name in below(crate):
-        shutil.rmtree(folder / "crates" / name, ignore_errors=True)
-    shutil.rmtree(folder / "crates" / crate / "out", ignore_errors=True)
-
-
 def seed(crate):
     """Where a check of a crate as it stands leaves its work; None if it is not proved."""
     folder = ROOT / "target" / "seeds" / crate
-    kept = folder / "crates" / crate / "out" / "incremental"
-    log = check(folder, crate, texts(crate), ROOT / "crates" / crate / "out" / "incremental")
+    kept = folder / "incremental"
+    log = check(folder, crate, texts(crate), ROOT / "crates" / crate / "out" / "incremental", kept)
     return kept if "\nstatus=0\n" in log else None
 
 
@@ -131,7 +131,6 @@ def all_of(wanted):
         crate, files = wanted[folder]
         if seeds.result():
             found[folder] = check(folder, crate, files, seeds.result())
-            drop(folder, crate)
 
     with concurrent.futures.ThreadPoolExecutor(jobs()) as pool:
         seeds = {crate: pool.submit(seed, crate) for crate in crates}
