@@ -1,13 +1,13 @@
 -- The reader's answer by its number and values: frame's law, cited.
+use Rattle.std.specs.Prelude.{Result, Ok, Err}
 use Prim.Native.Nat.{ℕ}
 use mathlib.Core.List.{List}
 use mathlib.Core.Path.{◌≡◌, refl, ap}
 use lib.ListN.{get_or, drop}
 use Rattle.cemi.specs.Answers.{message_values, cemi_numbered}
-use Rattle.cemi.specs.declared.CemiAnswer.TheVariants.{Frame, Refused}
-use Rattle.cemi.specs.declared.CemiAnswer.{CemiAnswer}
 use Rattle.cemi.specs.declared.Message.{Message}
 use Rattle.frame.proofs.Answers.{Split, Tells, answers, refuses, tells, weigh-apart, meaning-apart}
+use Rattle.frame.specs.declared.Refusal.{Refusal}
 
 -- a message's values tell it from every other
 pub message-apart : (x y : Message) → message_values x ≡ message_values y → x ≡ y
@@ -17,9 +17,9 @@ message-apart x y e =
     let meaning : x.meaning ≡ y.meaning = meaning-apart _ _ (ap (drop 2) e) in
     λ i. record { code = code i; error = error i; meaning = meaning i }
 
-split : (a : CemiAnswer) → Split Frame Refused a
-split (Frame x) = answers x refl
-split (Refused r) = refuses r refl
+split : (a : Result Message Refusal) → Split Ok Err a
+split (Ok x) = answers x refl
+split (Err r) = refuses r refl
 
-pub cemi-tells : Tells Refused cemi_numbered
-cemi-tells = tells Frame Refused message_values cemi_numbered split (λ x. refl) (λ r. refl) message-apart
+pub cemi-tells : Tells Err cemi_numbered
+cemi-tells = tells Ok Err message_values cemi_numbered split (λ x. refl) (λ r. refl) message-apart

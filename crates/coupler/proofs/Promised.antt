@@ -1,5 +1,6 @@
 -- What a step promises, read off its definition: forwarded exactly if everything allows it, acknowledged exactly if due, the memory
 -- exactly the accepted frame, and a series exactly the fold.
+use Rattle.std.specs.Prelude.{Ok}
 use Prim.Native.Nat.{ℕ, ◌≤◌}
 use mathlib.Core.Bool.{Bool, true, false, not, cond, ◌&&◌, ◌||◌}
 use mathlib.Core.List.{List, [], ◌∷◌}
@@ -30,8 +31,6 @@ use Rattle.tp1.proofs.LayoutLaws.{length-octets}
 use Rattle.tp1.proofs.RoundTrip.{laid-read}
 use Rattle.tp1.specs.Layout.{tp1_octets}
 use Rattle.tp1.specs.Reading.{read_tp1}
-use Rattle.tp1.specs.declared.Tp1Answer.TheVariants.{Frame}
-use Rattle.cemi.specs.declared.CemiAnswer.TheVariants.{Frame as Message-is}
 
 -- "A coupler forwards exactly if address, settings and hop count allow it and the frame is no repetition." (`is_let_through` holds of no frame
 -- for the coupler itself.)
@@ -79,11 +78,11 @@ module _ (k : Coupler) (remembered s : List ℕ) where
 forwarded-valid : (k : Setting) (m : Meaning) (p : List ℕ) → Valid m p → Valid (forwarded_meaning k m) p
 forwarded-valid k m p v = record { ranges = forwarded-ranged k m (length p) v.ranges; source = v.source; destination = v.destination; octets = v.octets }
 
-pub sent-reads-tp1 : (k : Coupler) (m : Meaning) (p : List ℕ) → Valid m p → to_ip k ≡ false → read_tp1 (forwarded_octets k m p) ≡ Frame (forwarded_meaning k.setting m)
+pub sent-reads-tp1 : (k : Coupler) (m : Meaning) (p : List ℕ) → Valid m p → to_ip k ≡ false → read_tp1 (forwarded_octets k m p) ≡ Ok (forwarded_meaning k.setting m)
 unfolding form_of
 sent-reads-tp1 k m p v e = rw e (laid-read (forwarded_meaning k.setting m) p (forwarded-valid k.setting m p v))
 
-pub sent-reads-ip : (k : Coupler) (m : Meaning) (p : List ℕ) → Valid m p → to_ip k ≡ true → read_routing (forwarded_octets k m p) ≡ Message-is (indication (forwarded_meaning k.setting m))
+pub sent-reads-ip : (k : Coupler) (m : Meaning) (p : List ℕ) → Valid m p → to_ip k ≡ true → read_routing (forwarded_octets k m p) ≡ Ok (indication (forwarded_meaning k.setting m))
 unfolding form_of
 sent-reads-ip k m p v e =
     rw e (routing-read (indication (forwarded_meaning k.setting m)) p (record { ranges = indication-ranged k.setting m (length p) v.ranges; valid = forwarded-valid k.setting m p v }))

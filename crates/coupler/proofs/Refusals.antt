@@ -1,5 +1,6 @@
 -- Each refusal of the settings exactly in its listed case, then the reader's, then an accepted frame: corollaries of the law of tests in
 -- order. Neither reader gives 15, 18, 14 or 13, and the outcome's number tells the refusals apart.
+use Rattle.std.specs.Prelude.{Result, Ok, Err}
 use Prim.Native.Nat.{ℕ}
 use mathlib.Core.Bool.{Bool, true, false, not, ◌&&◌, ◌||◌}
 use mathlib.Core.List.{List, [], ◌∷◌, ◌++◌}
@@ -8,53 +9,48 @@ use mathlib.Core.Path.{◌≡◌, refl, sym, ap, ◌∙◌}
 use lib.Dec.{ltb, eqb}
 use lib.ListN.{length, take, drop}
 use borrow.Author.Tests.{eqb-false}
-use Rattle.cemi.specs.declared.CemiAnswer.{CemiAnswer}
 use Rattle.coupler.proofs.Apart.{frame-nothing, nothing-one}
 use Rattle.passing.specs.Settings.{are_codes, table_fits}
 use Rattle.coupler.specs.Step.{Coupler, setting_tests, from_ip, Heard, heard_tp1, heard_ip, read_by, after, heard, outcome_by, frame, nothing}
 use Rattle.frame.proofs.Numbers.{refused-number, number-apart}
 use Rattle.frame.specs.Order.{Test, first_of, answer_by, NoneOf, ◌gives◌}
-use Rattle.frame.specs.declared.Verdict.TheVariants.{Fine, Refuse}
-use Rattle.frame.specs.declared.Verdict.{Verdict}
 use Rattle.frame.specs.Refusals.{number}
 use Rattle.frame.specs.declared.Meaning.{Meaning}
 use Rattle.frame.specs.declared.Refusal.TheVariants.{SmallRoom, OutOfRange, WrongSetting, NoTable}
 use Rattle.frame.specs.declared.Refusal.{Refusal}
 use Rattle.routing.specs.Reading.{routing_tests, read_routing}
 use Rattle.tp1.specs.Reading.{tp1_tests, read_tp1}
-use Rattle.tp1.specs.declared.Tp1Answer.{Tp1Answer}
 use Rattle.frame.proofs.Order.{passed-iff, refused-iff as order-iff, gives_not, never-given, answer-iff, refusal-once}
-use Rattle.cemi.specs.declared.CemiAnswer.TheVariants.{Frame as Message-is, Refused as Message-not}
 use Rattle.routing.proofs.Refusals.{refused-iff as routing-refused-iff}
 use Rattle.tp1.proofs.Refusals.{refused-iff as tp1-refused-iff}
-use Rattle.tp1.specs.declared.Tp1Answer.TheVariants.{Frame, Refused as Unread}
+use Rattle.cemi.specs.declared.Message.{Message}
 
 never-read : (b : Bool) (s : List ℕ) (r : Refusal) → gives_not (tp1_tests s) r ≡ true → gives_not (routing_tests s) r ≡ true → nothing r ≡ read_by b s → ⊥
 never-read b s r g h e = by b e
   where
-    by-tp1 : (a : Tp1Answer) → read_tp1 s ≡ a → nothing r ≡ heard_tp1 a s → ⊥
-    by-tp1 (Frame m) q z = frame-nothing z
-    by-tp1 (Unread x) q z = never-given (tp1_tests s) r g ((order-iff (tp1_tests s) r).1 ((tp1-refused-iff s r).0 (q ∙ ap Unread (nothing-one (sym z)))))
+    by-tp1 : (a : Result Meaning Refusal) → read_tp1 s ≡ a → nothing r ≡ heard_tp1 a s → ⊥
+    by-tp1 (Ok m) q z = frame-nothing z
+    by-tp1 (Err x) q z = never-given (tp1_tests s) r g ((order-iff (tp1_tests s) r).1 ((tp1-refused-iff s r).0 (q ∙ ap Err (nothing-one (sym z)))))
 
-    by-ip : (a : CemiAnswer) → read_routing s ≡ a → nothing r ≡ heard_ip a s → ⊥
-    by-ip (Message-is x) q z = frame-nothing z
-    by-ip (Message-not x) q z = never-given (routing_tests s) r h ((order-iff (routing_tests s) r).1 ((routing-refused-iff s r).0 (q ∙ ap Message-not (nothing-one (sym z)))))
+    by-ip : (a : Result Message Refusal) → read_routing s ≡ a → nothing r ≡ heard_ip a s → ⊥
+    by-ip (Ok x) q z = frame-nothing z
+    by-ip (Err x) q z = never-given (routing_tests s) r h ((order-iff (routing_tests s) r).1 ((routing-refused-iff s r).0 (q ∙ ap Err (nothing-one (sym z)))))
 
     by : (b : Bool) → nothing r ≡ read_by b s → ⊥
     by true z = by-ip (read_routing s) refl z
     by false z = by-tp1 (read_tp1 s) refl z
 
 -- the settings' word, then the reader's: an answer by a verdict
-after-answer : (v : Verdict) (h : Heard) → after v h ≡ answer_by nothing h v
-after-answer Fine h = refl
-after-answer (Refuse r) h = refl
+after-answer : (v : Result (Unit {0}) Refusal) (h : Heard) → after v h ≡ answer_by nothing h v
+after-answer (Ok _) h = refl
+after-answer (Err r) h = refl
 
 behind-iff : (ts : List Test) (h : Heard) (r : Refusal) → gives_not ts r ≡ true → answer_by nothing h (first_of ts) ≡ nothing r ↔ (NoneOf ts × (h ≡ nothing r))
 behind-iff ts h r g = (go (first_of ts) refl, λ x. ap (answer_by nothing h) ((passed-iff ts).1 x.0) ∙ x.1)
   where
-    go : (v : Verdict) → first_of ts ≡ v → answer_by nothing h v ≡ nothing r → NoneOf ts × (h ≡ nothing r)
-    go Fine q e = ((passed-iff ts).0 q, e)
-    go (Refuse x) q e = never-given ts r g (q ∙ ap Refuse (nothing-one e))
+    go : (v : Result (Unit {0}) Refusal) → first_of ts ≡ v → answer_by nothing h v ≡ nothing r → NoneOf ts × (h ≡ nothing r)
+    go (Ok _) q e = ((passed-iff ts).0 q, e)
+    go (Err x) q e = never-given ts r g (q ∙ ap Err (nothing-one e))
 
 module _ (k : Coupler) (s : List ℕ) (room : ℕ) where
   answered : heard k s room ≡ answer_by nothing (read_by (from_ip k) s) (first_of (setting_tests k room))

@@ -1,4 +1,5 @@
 -- What the parts of a step ensure, put together: a frame that was read has a form on either medium, and a room of 272 holds it.
+use Rattle.std.specs.Prelude.{Result, Ok, Err}
 use Prim.Native.Nat.{ℕ, ◌-◌, ◌≤◌, ◌<◌}
 use mathlib.Core.Bool.{Bool, true, false, not, cond, ◌&&◌}
 use mathlib.Core.List.{List}
@@ -8,7 +9,6 @@ use lib.Dec.{eqb}
 use lib.ListN.{length, take, drop}
 use borrow.Author.Tests.{ltb-false}
 use Rattle.cemi.specs.Writing.{message_in_range}
-use Rattle.cemi.specs.declared.CemiAnswer.{CemiAnswer}
 use Rattle.cemi.specs.declared.Codes.TheVariants.{IndicationOnly}
 use Rattle.cemi.specs.declared.Message.{Message}
 use Rattle.coupler.proofs.Apart.{frame-nothing}
@@ -26,14 +26,10 @@ use Rattle.frame.proofs.Order.{passed-iff}
 use Rattle.frame.proofs.Valid.{ranges-of, ranged, most-payload}
 use Rattle.frame.proofs.Writing.{put-iff, wrote-over}
 use Rattle.frame.specs.Order.{first_of}
-use Rattle.frame.specs.declared.Verdict.TheVariants.{Fine, Refuse}
-use Rattle.frame.specs.declared.Verdict.{Verdict}
 use Rattle.frame.specs.Valid.{in_range, Valid}
 use Rattle.frame.specs.Writing.{Wrote}
 use Rattle.frame.specs.declared.Meaning.{Meaning}
 use Rattle.frame.specs.declared.Refusal.{Refusal}
-use Rattle.frame.specs.declared.Written.TheVariants.{Put}
-use Rattle.frame.specs.declared.Written.{Written}
 use Rattle.octets.proofs.Octets.{octets-drop}
 use Rattle.octets.specs.Octets.{Octets}
 use Rattle.octets.specs.Room.{over}
@@ -44,10 +40,7 @@ use Rattle.routing.specs.Reading.{read_routing, routed_payload}
 use Rattle.tp1.proofs.LayoutLaws.{octets-most}
 use Rattle.tp1.specs.Layout.{tp1_octets}
 use Rattle.tp1.specs.Reading.{payload_in, read_tp1}
-use Rattle.tp1.specs.declared.Tp1Answer.{Tp1Answer}
-use Rattle.tp1.specs.declared.Tp1Answer.TheVariants.{Frame, Refused as Unread}
 use Rattle.tp1.proofs.RoundTrip.{read-laid as tp1-read-laid}
-use Rattle.cemi.specs.declared.CemiAnswer.TheVariants.{Frame as Message-is, Refused as Message-not}
 use Rattle.cemi.proofs.RoundTrip.{read-laid as cemi-read-laid}
 
 hopped-below : (k : Setting) (c : ℕ) → c < 8 → hopped_by k c < 8
@@ -68,12 +61,12 @@ unfolding message_in_range
 indication-ranged k m n e = forwarded-ranged k m n e
 
 -- a writer that refused nothing has sent the frame
-sent-all : {ok : Bool} {octets room : List ℕ} {w : Written} {room' : List ℕ} {n : ℕ} → ok ≡ true → length octets ≤ length room → Wrote ok octets room w room' → n ≡ put_size w → Sent octets room n room'
+sent-all : {ok : Bool} {octets room : List ℕ} {w : Result ℕ Refusal} {room' : List ℕ} {n : ℕ} → ok ≡ true → length octets ≤ length room → Wrote ok octets room w room' → n ≡ put_size w → Sent octets room n room'
 sent-all {ok} {octets} {room} {w} e h x s =
-    let a : w ≡ Put (length octets) = x.answered ∙ (put-iff ok octets room (length octets)).1 (e, (h, refl)) in
+    let a : w ≡ Ok (length octets) = x.answered ∙ (put-iff ok octets room (length octets)).1 (e, (h, refl)) in
     record { count = s ∙ ap put_size a; left = wrote-over e h x }
 
-module _ (k : Setting) (m : Meaning) (p room : List ℕ) (e : in_range m (length p) ≡ true) (h : 272 ≤ length room) {w : Written} {room' : List ℕ} {n : ℕ} where
+module _ (k : Setting) (m : Meaning) (p room : List ℕ) (e : in_range m (length p) ≡ true) (h : 272 ≤ length room) {w : Result ℕ Refusal} {room' : List ℕ} {n : ℕ} where
   pub sent-tp1 : Wrote (in_range (forwarded_meaning k m) (length p)) (tp1_octets (forwarded_meaning k m) p) room w room' → n ≡ put_size w → Sent (form_of false k m p) room n room'
   unfolding form_of
   sent-tp1 x s = sent-all (forwarded-ranged k m (length p) e) (omega (arith, octets-most (forwarded_meaning k m) p (forwarded-ranged k m (length p) e))) x s
@@ -83,10 +76,10 @@ module _ (k : Setting) (m : Meaning) (p room : List ℕ) (e : in_range m (length
   sent-ip x s = sent-all (indication-ranged k m (length p) e) (omega (arith, length-routing (indication (forwarded_meaning k m)) p, most-payload m (length p) e)) x s
 
 -- a frame that was read has a meaning and a payload in range
-pub tp1-ranged : (s : List ℕ) (m : Meaning) → Octets s → read_tp1 s ≡ Frame m → in_range m (length (payload_in (Frame m) s)) ≡ true
+pub tp1-ranged : (s : List ℕ) (m : Meaning) → Octets s → read_tp1 s ≡ Ok m → in_range m (length (payload_in (Ok m) s)) ≡ true
 tp1-ranged s m o e = (tp1-read-laid s m o e).valid.ranges
 
-pub ip-ranged : (s : List ℕ) (x : Message) → Octets s → read_routing s ≡ Message-is x → in_range x.meaning (length (routed_payload (Message-is x) s)) ≡ true
+pub ip-ranged : (s : List ℕ) (x : Message) → Octets s → read_routing s ≡ Ok x → in_range x.meaning (length (routed_payload (Ok x) s)) ≡ true
 ip-ranged s x o e = (cemi-read-laid IndicationOnly (drop 6 s) x (octets-drop 6 s o) (read-datagram s x o e).1).valid.valid.ranges
 
 -- what became of an accepted frame is what a step says of it
@@ -106,7 +99,7 @@ handed-on {k} {remembered} {s} {h} {room} e x =
     record { outcome = x.outcome ∙ ap (outcome_by k remembered s) (sym e); left = x.left ∙ ap (λ (y : Heard). over (sent_by k remembered s y) room) (sym e) }
 
 -- settings that are fine come with a room of 272
-pub fine-room : (k : Coupler) (n : ℕ) → first_of (setting_tests k n) ≡ Fine → 272 ≤ n
+pub fine-room : (k : Coupler) (n : ℕ) → first_of (setting_tests k n) ≡ Ok tt → 272 ≤ n
 fine-room k n e = ltb-false n 272 ((passed-iff (setting_tests k n)).0 e).1.1.1.0
 
 -- the memory that the code keeps by the outcome's number is the one that the step says
@@ -134,22 +127,22 @@ did k m s {room} {r} {n} {o} {m'} {room'} e j x y =
     }
 
 -- a TP1 frame has at most 263 octets: it fits the memory
-pub tp1-most : (s : List ℕ) (m : Meaning) → Octets s → read_tp1 s ≡ Frame m → length s ≤ 263
+pub tp1-most : (s : List ℕ) (m : Meaning) → Octets s → read_tp1 s ≡ Ok m → length s ≤ 263
 tp1-most s m o e =
     let w = tp1-read-laid s m o e in
-    omega (arith, ap length w.layout, octets-most m (payload_in (Frame m) s) w.valid.ranges)
+    omega (arith, ap length w.layout, octets-most m (payload_in (Ok m) s) w.valid.ranges)
 
 pub heard-size : (k : Coupler) (s : List ℕ) (n : ℕ) (m : Meaning) (p : List ℕ) → Octets s → heard k s n ≡ frame m p → from_ip k ≡ false → length s ≤ 263
 unfolding heard
 heard-size k s n m p o e f = settled (first_of (setting_tests k n)) (rw f at e)
   where
-    answered : (a : Tp1Answer) → read_tp1 s ≡ a → heard_tp1 a s ≡ frame m p → length s ≤ 263
-    answered (Frame x) q z = tp1-most s x o q
-    answered (Unread r) q z = frame-nothing z
+    answered : (a : Result Meaning Refusal) → read_tp1 s ≡ a → heard_tp1 a s ≡ frame m p → length s ≤ 263
+    answered (Ok x) q z = tp1-most s x o q
+    answered (Err r) q z = frame-nothing z
 
-    settled : (v : Verdict) → after v (heard_tp1 (read_tp1 s) s) ≡ frame m p → length s ≤ 263
-    settled Fine z = answered (read_tp1 s) refl z
-    settled (Refuse r) z = frame-nothing z
+    settled : (v : Result (Unit {0}) Refusal) → after v (heard_tp1 (read_tp1 s) s) ≡ frame m p → length s ≤ 263
+    settled (Ok _) z = answered (read_tp1 s) refl z
+    settled (Err r) z = frame-nothing z
 
 -- two outcomes that a contract allows coincide
 pub handed-one : {k : Coupler} {remembered s room : List ℕ} {o₁ o₂ : Outcome} {r₁ r₂ : List ℕ} → HandedOn k remembered s room o₁ r₁ → HandedOn k remembered s room o₂ r₂ → (o₁ ≡ o₂) × (r₁ ≡ r₂)
@@ -163,18 +156,18 @@ pub heard-valid : (k : Coupler) (s : List ℕ) (n : ℕ) (m : Meaning) (p : List
 unfolding heard
 heard-valid k s n m p o e = settled (first_of (setting_tests k n)) (from_ip k) e
   where
-    by-tp1 : (a : Tp1Answer) → read_tp1 s ≡ a → heard_tp1 a s ≡ frame m p → Valid m p
-    by-tp1 (Frame x) q z = let em : x ≡ m = cc in let ep : payload_in (Frame x) s ≡ p = cc in subst (λ (y : Meaning). Valid y p) em (subst (Valid x) ep (tp1-read-laid s x o q).valid)
-    by-tp1 (Unread r) q z = frame-nothing z
+    by-tp1 : (a : Result Meaning Refusal) → read_tp1 s ≡ a → heard_tp1 a s ≡ frame m p → Valid m p
+    by-tp1 (Ok x) q z = let em : x ≡ m = cc in let ep : payload_in (Ok x) s ≡ p = cc in subst (λ (y : Meaning). Valid y p) em (subst (Valid x) ep (tp1-read-laid s x o q).valid)
+    by-tp1 (Err r) q z = frame-nothing z
 
-    by-ip : (a : CemiAnswer) → read_routing s ≡ a → heard_ip a s ≡ frame m p → Valid m p
-    by-ip (Message-is x) q z =
+    by-ip : (a : Result Message Refusal) → read_routing s ≡ a → heard_ip a s ≡ frame m p → Valid m p
+    by-ip (Ok x) q z =
         let em : x.meaning ≡ m = cc in
-        let ep : routed_payload (Message-is x) s ≡ p = cc in
+        let ep : routed_payload (Ok x) s ≡ p = cc in
         subst (λ (y : Meaning). Valid y p) em (subst (Valid x.meaning) ep (cemi-read-laid IndicationOnly (drop 6 s) x (octets-drop 6 s o) (read-datagram s x o q).1).valid.valid)
-    by-ip (Message-not r) q z = frame-nothing z
+    by-ip (Err r) q z = frame-nothing z
 
-    settled : (v : Verdict) (b : Bool) → after v (read_by b s) ≡ frame m p → Valid m p
-    settled Fine true z = by-ip (read_routing s) refl z
-    settled Fine false z = by-tp1 (read_tp1 s) refl z
-    settled (Refuse r) b z = frame-nothing z
+    settled : (v : Result (Unit {0}) Refusal) (b : Bool) → after v (read_by b s) ≡ frame m p → Valid m p
+    settled (Ok _) true z = by-ip (read_routing s) refl z
+    settled (Ok _) false z = by-tp1 (read_tp1 s) refl z
+    settled (Err r) b z = frame-nothing z

@@ -1,5 +1,5 @@
 -- One coupler step: document 01, "The coupler".
-use Rattle.std.specs.Prelude.{ℕ, ◌≡◌, List, [], ◌∷◌, ◌++◌, Bool, true, false, cond, not, ◌&&◌, ◌||◌, length, ltb, eqb}
+use Rattle.std.specs.Prelude.{ℕ, ◌≡◌, List, [], ◌∷◌, ◌++◌, Bool, true, false, cond, not, ◌&&◌, ◌||◌, length, ltb, eqb, Result, Ok, Err}
 use Rattle.octets.specs.Octets.{weigh}
 use Rattle.octets.specs.Room.{over}
 use Rattle.frame.specs.declared.Meaning.{Meaning}
@@ -7,15 +7,9 @@ use Rattle.frame.specs.declared.Refusal.{Refusal}
 use Rattle.frame.specs.declared.Refusal.TheVariants.{WrongSetting, NoTable, OutOfRange, SmallRoom}
 use Rattle.frame.specs.Refusals.{number}
 use Rattle.frame.specs.Order.{Test, ◌gives◌, first_of}
-use Rattle.frame.specs.declared.Verdict.TheVariants.{Fine, Refuse}
-use Rattle.frame.specs.declared.Verdict.{Verdict}
-use Rattle.tp1.specs.declared.Tp1Answer.{Tp1Answer}
-use Rattle.tp1.specs.declared.Tp1Answer.TheVariants.{Frame, Refused}
 use Rattle.tp1.specs.Layout.{tp1_octets}
 use Rattle.tp1.specs.Reading.{tp1_tests, read_tp1, payload_in}
 use Rattle.cemi.specs.declared.Message.{Message}
-use Rattle.cemi.specs.declared.CemiAnswer.{CemiAnswer}
-use Rattle.cemi.specs.declared.CemiAnswer.TheVariants.{Frame as Message-is, Refused as Message-not}
 use Rattle.routing.specs.Layout.{routing_octets}
 use Rattle.routing.specs.Reading.{routing_tests, read_routing, routed_payload}
 use Rattle.coupler.specs.declared.Acknowledgement.{Acknowledgement}
@@ -59,13 +53,13 @@ pub data Heard : Type 0 where
   frame : Meaning → List ℕ → Heard
   nothing : Refusal → Heard
 
-abbrev pub heard_tp1 : Tp1Answer → List ℕ → Heard
-heard_tp1 (Frame m) s = frame m (payload_in (Frame m) s)
-heard_tp1 (Refused r) s = nothing r
+abbrev pub heard_tp1 : Result Meaning Refusal → List ℕ → Heard
+heard_tp1 (Ok m) s = frame m (payload_in (Ok m) s)
+heard_tp1 (Err r) s = nothing r
 
-abbrev pub heard_ip : CemiAnswer → List ℕ → Heard
-heard_ip (Message-is x) s = frame x.meaning (routed_payload (Message-is x) s)
-heard_ip (Message-not r) s = nothing r
+abbrev pub heard_ip : Result Message Refusal → List ℕ → Heard
+heard_ip (Ok x) s = frame x.meaning (routed_payload (Ok x) s)
+heard_ip (Err r) s = nothing r
 
 abbrev pub read_by : Bool → List ℕ → Heard
 read_by true s = heard_ip (read_routing s) s
@@ -81,9 +75,9 @@ abbrev pub step_tests : Coupler → List ℕ → ℕ → List Test
 step_tests k s room = setting_tests k room ++ reader_tests (from_ip k) s
 
 -- the settings' refusals, "then the reader's"
-abbrev pub after : Verdict → Heard → Heard
-after Fine h = h
-after (Refuse r) h = nothing r
+abbrev pub after : Result (Unit {0}) Refusal → Heard → Heard
+after (Ok _) h = h
+after (Err r) h = nothing r
 
 unfoldable pub heard : Coupler → List ℕ → ℕ → Heard
 heard k s room = after (first_of (setting_tests k room)) (read_by (from_ip k) s)

@@ -9,9 +9,8 @@ ghost use Rattle.coupler.specs.Step.{coupler_by, setting_tests, from_ip, read_by
 ghost use Rattle.coupler.specs.Stages.{put_size, Sent, PassedOn, HandedBy};
 
 use crate::{Acknowledgement, Outcome, Setting};
-use cemi::{CemiAnswer, Message};
-use frame::{Meaning, Refusal, Verdict, Written};
-use tp1::Tp1Answer;
+use cemi::Message;
+use frame::{Meaning, Refusal};
 
 // "On a refusal: its number, none, not, 0."
 pub(crate) fn refused(
@@ -32,26 +31,26 @@ pub(crate) fn refused(
 }
 
 // The refusals that stand before the reader's: 15, 18, 14, 13.
-pub(crate) fn judge(setting: Setting, codes: [[u8; 4]; 2], table: &[u8], room: usize) -> Verdict
+pub(crate) fn judge(setting: Setting, codes: [[u8; 4]; 2], table: &[u8], room: usize) -> Result<(), Refusal>
     ensures { result ≡ first_of (setting_tests (coupler_by setting codes table.now) room) }
 {
     let allowed = passing::settings::are_codes(codes);
     let wrong = (setting.line == 0) | !allowed;
     if wrong {
-        return Verdict::Refuse(Refusal::WrongSetting);
+        return Err(Refusal::WrongSetting);
     }
     if passing::settings::table_fits(codes, table.len()) {
         let named = (setting.side < 2) & (setting.medium < 2);
         if named {
             if room < 272 {
-                return Verdict::Refuse(Refusal::SmallRoom);
+                return Err(Refusal::SmallRoom);
             }
-            Verdict::Fine
+            Ok(())
         } else {
-            Verdict::Refuse(Refusal::OutOfRange)
+            Err(Refusal::OutOfRange)
         }
     } else {
-        Verdict::Refuse(Refusal::NoTable)
+        Err(Refusal::NoTable)
     }
 }
 
@@ -102,12 +101,12 @@ fn forwarded_meaning(setting: Setting, meaning: Meaning) -> Meaning
     }
 }
 
-fn put_size(written: Written) -> usize
+fn put_size(written: Result<usize, Refusal>) -> usize
     ensures { result ≡ put_size written }
 {
     match written {
-        Written::Put(size) => size,
-        Written::Refused(_) => 0,
+        Ok(size) => size,
+        Err(_) => 0,
     }
 }
 
@@ -175,20 +174,20 @@ fn repeats(ip: bool, remembered: &[u8], octets: &[u8]) -> bool
     crate::is_repetition(remembered, octets)
 }
 
-fn meaning_only(answer: CemiAnswer) -> Tp1Answer
+fn meaning_only(answer: Result<Message, Refusal>) -> Result<Meaning, Refusal>
     ensures { result ≡ meaning_only answer }
 {
     match answer {
-        CemiAnswer::Refused(refusal) => Tp1Answer::Refused(refusal),
-        CemiAnswer::Frame(message) => {
+        Err(refusal) => Err(refusal),
+        Ok(message) => {
             let meaning = message.meaning;
-            Tp1Answer::Frame(meaning)
+            Ok(meaning)
         }
     }
 }
 
 // What a frame means, or the reader's refusal, whichever medium it came by.
-fn hear(ip: bool, octets: &[u8]) -> Tp1Answer
+fn hear(ip: bool, octets: &[u8]) -> Result<Meaning, Refusal>
     ensures { result ≡ answer_on ip octets.now }
 {
     if ip {
@@ -208,9 +207,9 @@ fn payload_of(ip: bool, meaning: Meaning, octets: &[u8]) -> &[u8]
             error: false,
             meaning,
         };
-        routing::payload(CemiAnswer::Frame(message), octets)
+        routing::payload(Ok(message), octets)
     } else {
-        tp1::payload(Tp1Answer::Frame(meaning), octets)
+        tp1::payload(Ok(meaning), octets)
     }
 }
 
@@ -228,8 +227,8 @@ pub(crate) fn receive(
     let ip = (setting.side == 0) & (setting.medium == 1);
     let answer = hear(ip, octets);
     match answer {
-        Tp1Answer::Refused(refusal) => refused(setting, codes, table, octets, refusal),
-        Tp1Answer::Frame(meaning) => {
+        Err(refusal) => refused(setting, codes, table, octets, refusal),
+        Ok(meaning) => {
             let payload = payload_of(ip, meaning, octets);
             let repetition = repeats(ip, remembered, octets);
             pass_on(setting, codes, table, repetition, meaning, payload, room)

@@ -10,7 +10,6 @@ ghost use Rattle.coupler.specs.Setting.{setting_of, hopped_by};
 ghost use Rattle.coupler.specs.Memory.{no_memory, is_repetition};
 ghost use Rattle.coupler.specs.Step.{coupler_by, HandedOn, Did};
 
-use frame::Verdict;
 
 // A coupler's numbers: own line, receiving side (0 main, 1 sub), main medium (0 TP1, 1 IP).
 #[derive(Clone, Copy)]
@@ -92,8 +91,8 @@ pub fn hand_on(
 {
     let judged = forwarding::judge(setting, codes, table, room.len());
     match judged {
-        Verdict::Refuse(refusal) => forwarding::refused(setting, codes, table, octets, refusal),
-        Verdict::Fine => forwarding::receive(setting, codes, table, remembered, octets, room),
+        Err(refusal) => forwarding::refused(setting, codes, table, octets, refusal),
+        Ok(()) => forwarding::receive(setting, codes, table, remembered, octets, room),
     }
 }
 

@@ -1,4 +1,5 @@
 -- An acknowledgement judged behind the connection header's tests, and the call as its parts.
+use Rattle.std.specs.Prelude.{Result, Ok, Err}
 use Prim.Native.Nat.{ℕ}
 use mathlib.Core.List.{List, [], ◌∷◌, ◌++◌}
 use mathlib.Core.Path.{◌≡◌, ap, ◌∙◌}
@@ -8,7 +9,6 @@ use Rattle.frame.proofs.Order.{first-passed, first-refused}
 use Rattle.frame.specs.Order.{Test, answer_by, ◌gives◌}
 use Rattle.frame.specs.declared.Refusal.TheVariants.{LeftOver}
 use Rattle.frame.specs.declared.Refusal.{Refusal}
-use Rattle.frame.specs.declared.Verdict.TheVariants.{Fine, Refuse}
 use Rattle.channels.specs.Calls.{Called}
 use Rattle.channels.specs.Table.{channel_at, put}
 use Rattle.channels.specs.declared.Channel.{Channel}
@@ -18,23 +18,22 @@ use Rattle.tunnelling.specs.Reading.{channel_in, connected_tests, read_connectio
 use Rattle.exchange.specs.Confirming.{is_sent, confirmed_by, confirmed, channel_confirmed, confirming}
 use Rattle.exchange.specs.Receiving.{channel_tests}
 use Rattle.exchange.specs.Stages.{confirmed_behind}
-use Rattle.exchange.specs.declared.Confirmed.TheVariants.{Refused}
 use Rattle.exchange.specs.declared.Confirmed.{Confirmed}
 
 module _ (c : Channel) (s : List ℕ) where
-  pub connection-refuses : (r : Refusal) → read_connection acknowledgement_service s ≡ Refuse r → confirmed c s ≡ Refused r
+  pub connection-refuses : (r : Refusal) → read_connection acknowledgement_service s ≡ Err r → confirmed c s ≡ Err r
   unfolding confirmed
   connection-refuses r e =
       let us : List Test = channel_tests c (is_sent c s) ++ (ltb 10 (length s) gives LeftOver ∷ []) in
-      ap (answer_by Refused (confirmed_by s)) (first-refused (connected_tests acknowledgement_service s) us r (connection-verdict acknowledgement_service s e))
+      ap (answer_by Err (confirmed_by s)) (first-refused (connected_tests acknowledgement_service s) us r (connection-verdict acknowledgement_service s e))
 
-  pub connection-passes : read_connection acknowledgement_service s ≡ Fine → confirmed c s ≡ confirmed_behind c s
+  pub connection-passes : read_connection acknowledgement_service s ≡ Ok tt → confirmed c s ≡ confirmed_behind c s
   unfolding confirmed confirmed_behind
   connection-passes e =
       let us : List Test = channel_tests c (is_sent c s) ++ (ltb 10 (length s) gives LeftOver ∷ []) in
-      ap (answer_by Refused (confirmed_by s)) (first-passed (connected_tests acknowledgement_service s) us (connection-verdict acknowledgement_service s e))
+      ap (answer_by Err (confirmed_by s)) (first-passed (connected_tests acknowledgement_service s) us (connection-verdict acknowledgement_service s e))
 
-pub settled : (cs : List Channel) (s : List ℕ) {k : ℕ} {c c' : Channel} {a : Confirmed} {cs' : List Channel}
+pub settled : (cs : List Channel) (s : List ℕ) {k : ℕ} {c c' : Channel} {a : Result Confirmed Refusal} {cs' : List Channel}
     → k ≡ channel_in s → c ≡ channel_at cs k → a ≡ confirmed c s → c' ≡ channel_confirmed a c → cs' ≡ put cs k c' → Called (confirming s) cs a cs'
 settled cs s {k} {c} {c'} {a} e₁ e₂ e₃ e₄ e₅ =
     let n : ℕ = channel_in s in
@@ -42,5 +41,5 @@ settled cs s {k} {c} {c'} {a} e₁ e₂ e₃ e₄ e₅ =
     let f : a ≡ confirmed (channel_at cs n) s = e₃ ∙ ap (λ (x : Channel). confirmed x s) e in
     record {
       answers = f;
-      table = e₅ ∙ ap (λ (i : ℕ). put cs i c') e₁ ∙ ap (put cs n) (e₄ ∙ ap (channel_confirmed a) e ∙ ap (λ (x : Confirmed). channel_confirmed x (channel_at cs n)) f);
+      table = e₅ ∙ ap (λ (i : ℕ). put cs i c') e₁ ∙ ap (put cs n) (e₄ ∙ ap (channel_confirmed a) e ∙ ap (λ (x : Result Confirmed Refusal). channel_confirmed x (channel_at cs n)) f);
     }

@@ -1,5 +1,6 @@
 -- What a request and an acknowledgement come to, exactly: the order's tests are the wire reader's with the channel's between them, so that
 -- what is not refused is what the reader accepts on an open channel with a counter that it awaits.
+use Rattle.std.specs.Prelude.{Result, Ok, Err}
 use Prim.Native.Nat.{ℕ, suc, ◌≤◌, ◌<◌}
 use mathlib.Core.Bool.{Bool, true, false, cond, not, ◌||◌}
 use mathlib.Core.List.{List, [], ◌∷◌, ◌++◌}
@@ -22,15 +23,14 @@ use Rattle.tunnelling.proofs.Refusals.{request-accepted-iff, acknowledgement-acc
 use Rattle.tunnelling.specs.Layout.{request_service, acknowledgement_service}
 use Rattle.tunnelling.specs.Reading.{is_other_connection, counter_in, status_in, message, connected_tests, request_in, read_request, acknowledgement_in, read_acknowledgement}
 use Rattle.tunnelling.specs.declared.Acknowledgement.{Acknowledgement}
-use Rattle.tunnelling.specs.declared.AcknowledgementAnswer.TheVariants.{Frame as Acknowledged}
 use Rattle.tunnelling.specs.declared.Request.{Request}
-use Rattle.tunnelling.specs.declared.RequestAnswer.TheVariants.{Frame}
-use Rattle.exchange.proofs.Apart.{delivered-refused, again-refused, delivered-again, delivered-one, refused-one, raised-refused, kept-refused, raised-kept, unconfirmed-one}
+use Rattle.exchange.proofs.Apart.{delivered-again, delivered-one, raised-kept}
+use Rattle.frame.proofs.Apart.{err-ok, err-one}
 use Rattle.exchange.specs.Confirming.{is_sent, confirm_tests, confirmed_by, confirmed}
 use Rattle.exchange.specs.Receiving.{is_expected, is_behind, channel_tests, receive_tests, taken_as, received}
-use Rattle.exchange.specs.declared.Confirmed.TheVariants.{Raised, Kept, Refused as Unconfirmed}
+use Rattle.exchange.specs.declared.Confirmed.TheVariants.{Raised, Kept}
 use Rattle.exchange.specs.declared.Confirmed.{Confirmed}
-use Rattle.exchange.specs.declared.Received.TheVariants.{Delivered, Again, Refused}
+use Rattle.exchange.specs.declared.Received.TheVariants.{Delivered, Again}
 use Rattle.exchange.specs.declared.Received.{Received}
 
 -- a counter raised by one is another
@@ -54,7 +54,7 @@ module _ (c : Channel) (s : List ℕ) where
   -- a request that its channel may take: room for the acknowledgement, a request on the wire, and the channel open
   pub record Arrives (room : ℕ) (x : Request) : Type 0 where
     pub fits : 10 ≤ room
-    pub read : read_request s ≡ Frame x
+    pub read : read_request s ≡ Ok x
     pub opened : c.opened ≡ true
 
   abbrev known : Bool
@@ -83,28 +83,28 @@ module _ (c : Channel) (s : List ℕ) where
 
   module _ (room : ℕ) where
     -- the answer where nothing is refused
-    taken-iff : (a : Received) → ((r : Refusal) → Refused r ≡ a → ⊥) → received c s room ≡ a ↔ (NoneOf (receive_tests c s room) × (taken_as (is_expected c s) s ≡ a))
+    taken-iff : (a : Result Received Refusal) → ((r : Refusal) → Err r ≡ a → ⊥) → received c s room ≡ a ↔ (NoneOf (receive_tests c s room) × (taken_as (is_expected c s) s ≡ a))
     unfolding received
-    taken-iff = answer-iff Refused (λ q r. refused-one) (receive_tests c s room) (taken_as (is_expected c s) s)
+    taken-iff = answer-iff Err (λ q r. err-one) (receive_tests c s room) (taken_as (is_expected c s) s)
 
     -- delivered exactly if the counter is the expected one
-    pub delivered-iff : (x : Request) → received c s room ≡ Delivered x ↔ (Arrives room x × (x.counter ≡ c.receive))
+    pub delivered-iff : (x : Request) → received c s room ≡ Ok (Delivered x) ↔ (Arrives room x × (x.counter ≡ c.receive))
     delivered-iff x =
-        let w = taken-iff (Delivered x) (λ r. delivered-refused) in (
+        let w = taken-iff (Ok (Delivered x)) (λ r. err-ok) in (
           (λ e. let n = w.0 e in go (is_expected c s) refl n.1 (arrived room n.0).0),
           λ g.
               let e : is_expected c s ≡ true = expected-iff.1 (counted-as g.0 ∙ g.1) in
-              w.1 (arrives room x g.0 (ap (λ (b : Bool). b || is_behind c s) e), ap (λ (b : Bool). taken_as b s) e ∙ ap Delivered (same g.0)),
+              w.1 (arrives room x g.0 (ap (λ (b : Bool). b || is_behind c s) e), ap (λ (b : Bool). taken_as b s) e ∙ ap (Ok (Delivered (same g.0)))),
         )
       where
-        go : (b : Bool) → is_expected c s ≡ b → taken_as b s ≡ Delivered x → Arrives room (request_in s) → Arrives room x × (x.counter ≡ c.receive)
+        go : (b : Bool) → is_expected c s ≡ b → taken_as b s ≡ Ok (Delivered x) → Arrives room (request_in s) → Arrives room x × (x.counter ≡ c.receive)
         go true e f a = rw (← delivered-one f) (a, expected-iff.0 e)
         go false e f a = delivered-again (sym f)
 
     -- acknowledged again exactly if it is one behind
-    pub again-iff : received c s room ≡ Again ↔ ((x : Request) × (Arrives room x × (raised x.counter ≡ c.receive)))
+    pub again-iff : received c s room ≡ (Ok Again) ↔ ((x : Request) × (Arrives room x × (raised x.counter ≡ c.receive)))
     again-iff =
-        let w = taken-iff Again (λ r. again-refused) in (
+        let w = taken-iff (Ok Again) (λ r. err-ok) in (
           (λ e. let n = w.0 e in let g = arrived room n.0 in go (is_expected c s) refl n.1 g.1 g.0),
           λ g.
               let f : raised (counter_in s) ≡ c.receive = ap raised (counted-as g.1.0) ∙ g.1.1 in
@@ -115,38 +115,38 @@ module _ (c : Channel) (s : List ℕ) where
         unexpected : raised (counter_in s) ≡ c.receive → is_expected c s ≡ false
         unexpected f = by_cases (is_expected c s) (λ e. absurd (raised-other (counter_in s) (f ∙ sym (expected-iff.0 e)))) (λ e. e)
 
-        go : (b : Bool) → is_expected c s ≡ b → taken_as b s ≡ Again → known ≡ true → Arrives room (request_in s) → (x : Request) × (Arrives room x × (raised x.counter ≡ c.receive))
+        go : (b : Bool) → is_expected c s ≡ b → taken_as b s ≡ (Ok Again) → known ≡ true → Arrives room (request_in s) → (x : Request) × (Arrives room x × (raised x.counter ≡ c.receive))
         go true e f k a = delivered-again f
         go false e f k a = (request_in s, (a, behind-iff.0 (rw e at k)))
 
     -- each refusal of the request's own exactly in its listed case
     once-at : (k : ℕ) (b : Bool) (r : Refusal) → receive_tests c s room ≡ take k (receive_tests c s room) ++ (b gives r ∷ drop (suc k) (receive_tests c s room))
         → gives_not (take k (receive_tests c s room)) r ≡ true → gives_not (drop (suc k) (receive_tests c s room)) r ≡ true
-        → received c s room ≡ Refused r ↔ (NoneOf (take k (receive_tests c s room)) × (b ≡ true))
+        → received c s room ≡ Err r ↔ (NoneOf (take k (receive_tests c s room)) × (b ≡ true))
     unfolding received
     once-at k b r e g h =
-        let w = refusal-once Refused (λ q r. refused-one) (take k (receive_tests c s room)) (drop (suc k) (receive_tests c s room)) b (taken_as (is_expected c s) s) r (no-refusal (is_expected c s)) g h in
+        let w = refusal-once Err (λ q r. err-one) (take k (receive_tests c s room)) (drop (suc k) (receive_tests c s room)) b (taken_as (is_expected c s) s) r (no-refusal (is_expected c s)) g h in
         rw (← e) at w
       where
-        no-refusal : (x : Bool) → Refused r ≡ taken_as x s → ⊥
-        no-refusal true = delivered-refused
-        no-refusal false = again-refused
+        no-refusal : (x : Bool) → Err r ≡ taken_as x s → ⊥
+        no-refusal true = err-ok
+        no-refusal false = err-ok
 
-    pub refused-13 : received c s room ≡ Refused SmallRoom ↔ (room < 10)
+    pub refused-13 : received c s room ≡ Err SmallRoom ↔ (room < 10)
     refused-13 = let w = once-at 0 _ SmallRoom refl refl refl in ((λ e. ltb-true room 10 (w.0 e).1), λ h. w.1 (tt, lt-ltb room 10 h))
 
-    pub refused-19 : received c s room ≡ Refused OtherConnection ↔ (NoneOf (take 6 (receive_tests c s room)) × (is_other_connection s ≡ true))
+    pub refused-19 : received c s room ≡ Err OtherConnection ↔ (NoneOf (take 6 (receive_tests c s room)) × (is_other_connection s ≡ true))
     refused-19 = once-at 6 _ OtherConnection refl refl refl
 
-    pub refused-20 : received c s room ≡ Refused NotOpen ↔ (NoneOf (take 7 (receive_tests c s room)) × (not c.opened ≡ true))
+    pub refused-20 : received c s room ≡ Err NotOpen ↔ (NoneOf (take 7 (receive_tests c s room)) × (not c.opened ≡ true))
     refused-20 = once-at 7 _ NotOpen refl refl refl
 
-    pub refused-21 : received c s room ≡ Refused OtherCounter ↔ (NoneOf (take 8 (receive_tests c s room)) × (not known ≡ true))
+    pub refused-21 : received c s room ≡ Err OtherCounter ↔ (NoneOf (take 8 (receive_tests c s room)) × (not known ≡ true))
     refused-21 = once-at 8 _ OtherCounter refl refl refl
 
   -- an acknowledgement of this channel: one on the wire, the channel open, the counter that its last request went out with
   pub record Answers (a : Acknowledgement) : Type 0 where
-    pub read : read_acknowledgement s ≡ Acknowledged a
+    pub read : read_acknowledgement s ≡ Ok a
     pub opened : c.opened ≡ true
     pub counter : a.counter ≡ c.send
 
@@ -169,59 +169,59 @@ module _ (c : Channel) (s : List ℕ) where
       let rest = (none-split (channel_tests c (is_sent c s)) last).1 ((ap not w.opened, (ap not e, tt)), n.1) in
       ((none-split (connected_tests acknowledgement_service s) (channel_tests c (is_sent c s) ++ last)).1 (n.0, rest), f.1)
 
-  settled-iff : (v : Confirmed) → ((r : Refusal) → Unconfirmed r ≡ v → ⊥) → confirmed c s ≡ v ↔ (NoneOf (confirm_tests c s) × (confirmed_by s ≡ v))
+  settled-iff : (v : Result Confirmed Refusal) → ((r : Refusal) → Err r ≡ v → ⊥) → confirmed c s ≡ v ↔ (NoneOf (confirm_tests c s) × (confirmed_by s ≡ v))
   unfolding confirmed
-  settled-iff = answer-iff Unconfirmed (λ q r. unconfirmed-one) (confirm_tests c s) (confirmed_by s)
+  settled-iff = answer-iff Err (λ q r. err-one) (confirm_tests c s) (confirmed_by s)
 
   -- raised exactly if such an acknowledgement has status 00h ..
-  pub raised-iff : confirmed c s ≡ Raised ↔ ((a : Acknowledgement) × (Answers a × (a.status ≡ 0)))
+  pub raised-iff : confirmed c s ≡ (Ok Raised) ↔ ((a : Acknowledgement) × (Answers a × (a.status ≡ 0)))
   raised-iff =
-      let w = settled-iff Raised (λ r. raised-refused) in (
+      let w = settled-iff (Ok Raised) (λ r. err-ok) in (
         (λ e. let n = w.0 e in (acknowledgement_in s, (answering n.0, go (eqb (status_in s) 0) refl n.1))),
         λ g.
             let n = answers g.0 g.1.0 in
-            w.1 (n.0, ap (λ (b : Bool). cond b Raised Kept) (eq-eqb (status_in s) 0 (ap (λ (b : Acknowledgement). b.status) n.1 ∙ g.1.1))),
+            w.1 (n.0, ap (λ (b : Bool). cond b (Ok Raised) (Ok Kept)) (eq-eqb (status_in s) 0 (ap (λ (b : Acknowledgement). b.status) n.1 ∙ g.1.1))),
       )
     where
-      go : (b : Bool) → eqb (status_in s) 0 ≡ b → cond b Raised Kept ≡ Raised → status_in s ≡ 0
+      go : (b : Bool) → eqb (status_in s) 0 ≡ b → cond b (Ok Raised) (Ok Kept) ≡ (Ok Raised) → status_in s ≡ 0
       go true e f = eqb-true (status_in s) 0 e
       go false e f = raised-kept (sym f)
 
   -- .. and kept exactly if it has another
-  pub kept-iff : confirmed c s ≡ Kept ↔ ((a : Acknowledgement) × (Answers a × (a.status ≡ 0 → ⊥)))
+  pub kept-iff : confirmed c s ≡ (Ok Kept) ↔ ((a : Acknowledgement) × (Answers a × (a.status ≡ 0 → ⊥)))
   kept-iff =
-      let w = settled-iff Kept (λ r. kept-refused) in (
+      let w = settled-iff (Ok Kept) (λ r. err-ok) in (
         (λ e. let n = w.0 e in (acknowledgement_in s, (answering n.0, go (eqb (status_in s) 0) refl n.1))),
         λ g.
             let n = answers g.0 g.1.0 in
-            w.1 (n.0, ap (λ (b : Bool). cond b Raised Kept) (ne_eqb (status_in s) 0 (λ z. g.1.1 (ap (λ (b : Acknowledgement). b.status) (sym n.1) ∙ z)))),
+            w.1 (n.0, ap (λ (b : Bool). cond b (Ok Raised) (Ok Kept)) (ne_eqb (status_in s) 0 (λ z. g.1.1 (ap (λ (b : Acknowledgement). b.status) (sym n.1) ∙ z)))),
       )
     where
-      go : (b : Bool) → eqb (status_in s) 0 ≡ b → cond b Raised Kept ≡ Kept → status_in s ≡ 0 → ⊥
+      go : (b : Bool) → eqb (status_in s) 0 ≡ b → cond b (Ok Raised) (Ok Kept) ≡ (Ok Kept) → status_in s ≡ 0 → ⊥
       go true e f = raised-kept f
       go false e f = eqb-false (status_in s) 0 e
 
   confirm-once : (k : ℕ) (b : Bool) (r : Refusal) → confirm_tests c s ≡ take k (confirm_tests c s) ++ (b gives r ∷ drop (suc k) (confirm_tests c s))
       → gives_not (take k (confirm_tests c s)) r ≡ true → gives_not (drop (suc k) (confirm_tests c s)) r ≡ true
-      → confirmed c s ≡ Unconfirmed r ↔ (NoneOf (take k (confirm_tests c s)) × (b ≡ true))
+      → confirmed c s ≡ Err r ↔ (NoneOf (take k (confirm_tests c s)) × (b ≡ true))
   unfolding confirmed
   confirm-once k b r e g h =
-      let w = refusal-once Unconfirmed (λ q r. unconfirmed-one) (take k (confirm_tests c s)) (drop (suc k) (confirm_tests c s)) b (confirmed_by s) r (no-refusal (eqb (status_in s) 0)) g h in
+      let w = refusal-once Err (λ q r. err-one) (take k (confirm_tests c s)) (drop (suc k) (confirm_tests c s)) b (confirmed_by s) r (no-refusal (eqb (status_in s) 0)) g h in
       rw (← e) at w
     where
-      no-refusal : (x : Bool) → Unconfirmed r ≡ cond x Raised Kept → ⊥
-      no-refusal true = raised-refused
-      no-refusal false = kept-refused
+      no-refusal : (x : Bool) → Err r ≡ cond x (Ok Raised) (Ok Kept) → ⊥
+      no-refusal true = err-ok
+      no-refusal false = err-ok
 
-  pub confirm-19 : confirmed c s ≡ Unconfirmed OtherConnection ↔ (NoneOf (take 5 (confirm_tests c s)) × (is_other_connection s ≡ true))
+  pub confirm-19 : confirmed c s ≡ Err OtherConnection ↔ (NoneOf (take 5 (confirm_tests c s)) × (is_other_connection s ≡ true))
   confirm-19 = confirm-once 5 _ OtherConnection refl refl refl
 
-  pub confirm-20 : confirmed c s ≡ Unconfirmed NotOpen ↔ (NoneOf (take 6 (confirm_tests c s)) × (not c.opened ≡ true))
+  pub confirm-20 : confirmed c s ≡ Err NotOpen ↔ (NoneOf (take 6 (confirm_tests c s)) × (not c.opened ≡ true))
   confirm-20 = confirm-once 6 _ NotOpen refl refl refl
 
-  pub confirm-21 : confirmed c s ≡ Unconfirmed OtherCounter ↔ (NoneOf (take 7 (confirm_tests c s)) × (not (is_sent c s) ≡ true))
+  pub confirm-21 : confirmed c s ≡ Err OtherCounter ↔ (NoneOf (take 7 (confirm_tests c s)) × (not (is_sent c s) ≡ true))
   confirm-21 = confirm-once 7 _ OtherCounter refl refl refl
 
   -- "for an acknowledgement 5 comes last"
-  pub confirm-5 : confirmed c s ≡ Unconfirmed LeftOver ↔ (NoneOf (take 8 (confirm_tests c s)) × (ltb 10 (length s) ≡ true))
+  pub confirm-5 : confirmed c s ≡ Err LeftOver ↔ (NoneOf (take 8 (confirm_tests c s)) × (ltb 10 (length s) ≡ true))
   confirm-5 = confirm-once 8 _ LeftOver refl refl refl

@@ -1,5 +1,6 @@
 -- A series received over one channel. While the table awaits request t, a copy of it is delivered and the table awaits t + 1; a copy of one
 -- of the 255 before it has another counter, so that it is not delivered and leaves the table; what is no request likewise.
+use Rattle.std.specs.Prelude.{Result, Ok, Err}
 use Prim.Native.Nat.{ℕ, suc, ◌+◌, ◌≤◌, ◌<◌}
 use mathlib.Core.Bool.{Bool, true, false, cond, ◌||◌}
 use mathlib.Core.List.{List, [], ◌∷◌, ◌++◌}
@@ -18,32 +19,31 @@ use Rattle.tunnelling.specs.Answers.{request_numbered}
 use Rattle.tunnelling.specs.Layout.{connected}
 use Rattle.tunnelling.specs.Reading.{channel_in, read_request}
 use Rattle.tunnelling.specs.declared.Request.{Request}
-use Rattle.tunnelling.specs.declared.RequestAnswer.TheVariants.{Frame}
-use Rattle.tunnelling.specs.declared.RequestAnswer.{RequestAnswer}
 use Rattle.exchange.proofs.Exactly.{delivered-iff}
 use Rattle.exchange.specs.Receiving.{received, channel_after, Took}
 use Rattle.exchange.specs.Series.{Client, counter_of, request_of, meant, from_on, Arrival, copy, damaged, Keeps, news, comes, Done, Receives, delivered_of, delivered_by}
-use Rattle.exchange.specs.declared.Received.TheVariants.{Delivered, Again, Refused}
+use Rattle.exchange.specs.declared.Received.TheVariants.{Delivered, Again}
 use Rattle.exchange.specs.declared.Received.{Received}
+use Rattle.frame.specs.declared.Refusal.{Refusal}
 
 -- a call that delivers nothing leaves the channel, and so the table
 
-quiet : (a : Received) (c : Channel) → ((x : Request) → a ≡ Delivered x → ⊥) → (delivered_of a ≡ []) × (channel_after a c ≡ c)
-quiet (Delivered x) c n = absurd (n x refl)
-quiet Again c n = (refl, refl)
-quiet (Refused r) c n = (refl, refl)
+quiet : (a : Result Received Refusal) (c : Channel) → ((x : Request) → a ≡ Ok (Delivered x) → ⊥) → (delivered_of a ≡ []) × (channel_after a c ≡ c)
+quiet (Ok (Delivered x)) c n = absurd (n x refl)
+quiet (Ok Again) c n = (refl, refl)
+quiet (Err r) c n = (refl, refl)
 
-pub unmoved : {cs : List Channel} {s room : List ℕ} {a : Received} {cs' : List Channel} {room' : List ℕ}
-    → Took cs s room a cs' room' → ((x : Request) → a ≡ Delivered x → ⊥) → (delivered_of a ≡ []) × (cs' ≡ cs)
+pub unmoved : {cs : List Channel} {s room : List ℕ} {a : Result Received Refusal} {cs' : List Channel} {room' : List ℕ}
+    → Took cs s room a cs' room' → ((x : Request) → a ≡ Ok (Delivered x) → ⊥) → (delivered_of a ≡ []) × (cs' ≡ cs)
 unmoved {cs} {s} {room} {a} w n =
     let c : Channel = channel_at cs (channel_in s) in
     let q = quiet a c n in
-    (q.0, w.called.table ∙ ap (λ (y : Received). put cs (channel_in s) (channel_after y c)) (sym w.called.answers) ∙ ap (put cs (channel_in s)) q.1 ∙ put_back cs (channel_in s))
+    (q.0, w.called.table ∙ ap (λ (y : Result Received Refusal). put cs (channel_in s) (channel_after y c)) (sym w.called.answers) ∙ ap (put cs (channel_in s)) q.1 ∙ put_back cs (channel_in s))
 
-frame_is : {x y : Request} → ◌≡◌ {A = RequestAnswer} (Frame x) (Frame y) → x ≡ y
+frame_is : {x y : Request} → ◌≡◌ {A = Result Request Refusal} (Ok x) (Ok y) → x ≡ y
 frame_is e = cc
 
-module _ (k : Client) (reads : (j : ℕ) → read_request (request_of k j) ≡ Frame (meant k j)) where
+module _ (k : Client) (reads : (j : ℕ) → read_request (request_of k j) ≡ Ok (meant k j)) where
   next-counter : (t : ℕ) → raised (counter_of k t) ≡ counter_of k (suc t)
   unfolding raised
   next-counter t = omega arith
@@ -60,14 +60,14 @@ module _ (k : Client) (reads : (j : ℕ) → read_request (request_of k j) ≡ F
     pub opened : (channel_at cs k.channel).opened ≡ true
     pub counter : (channel_at cs k.channel).receive ≡ counter_of k t
 
-  pub next : {cs : List Channel} {room : List ℕ} {a : Received} {cs' : List Channel} {room' : List ℕ} (t : ℕ)
-      → Awaits cs t → 10 ≤ length room → Took cs (request_of k t) room a cs' room' → (a ≡ Delivered (meant k t)) × Awaits cs' (suc t)
+  pub next : {cs : List Channel} {room : List ℕ} {a : Result Received Refusal} {cs' : List Channel} {room' : List ℕ} (t : ℕ)
+      → Awaits cs t → 10 ≤ length room → Took cs (request_of k t) room a cs' room' → (a ≡ Ok (Delivered (meant k t))) × Awaits cs' (suc t)
   next {cs} {room} {a} {cs'} t w fits g =
       let c : Channel = channel_at cs k.channel in
       let s : List ℕ = request_of k t in
       let here : channel_at cs (channel_in s) ≡ c = ap (channel_at cs) (names t) in
-      let e : received c s (length room) ≡ Delivered (meant k t) = (delivered-iff c s (length room) (meant k t)).1 (record { fits = fits; read = reads t; opened = w.opened }, sym w.counter) in
-      let f : received (channel_at cs (channel_in s)) s (length room) ≡ Delivered (meant k t) = ap (λ (y : Channel). received y s (length room)) here ∙ e in
+      let e : received c s (length room) ≡ Ok (Delivered (meant k t)) = (delivered-iff c s (length room) (meant k t)).1 (record { fits = fits; read = reads t; opened = w.opened }, sym w.counter) in
+      let f : received (channel_at cs (channel_in s)) s (length room) ≡ Ok (Delivered (meant k t)) = ap (λ (y : Channel). received y s (length room)) here ∙ e in
       let after : Channel = counted c (raised c.receive) c.send in
       let left : cs' ≡ put cs k.channel after = g.called.table ∙ (λ i. put cs (names t i) (channel_after (f i) (here i))) in
       let there : channel_at cs' k.channel ≡ after = ap (λ (l : List Channel). channel_at l k.channel) left ∙ at-put cs k.channel after w.opened in (
@@ -76,14 +76,14 @@ module _ (k : Client) (reads : (j : ℕ) → read_request (request_of k j) ≡ F
       )
 
   -- a call delivers what the reader accepts with the expected counter, and nothing else
-  delivers : {cs : List Channel} {s room : List ℕ} {a : Received} {cs' : List Channel} {room' : List ℕ} (x : Request) → Took cs s room a cs' room' → a ≡ Delivered x
-      → (read_request s ≡ Frame x) × (x.counter ≡ (channel_at cs (channel_in s)).receive)
+  delivers : {cs : List Channel} {s room : List ℕ} {a : Result Received Refusal} {cs' : List Channel} {room' : List ℕ} (x : Request) → Took cs s room a cs' room' → a ≡ Ok (Delivered x)
+      → (read_request s ≡ Ok x) × (x.counter ≡ (channel_at cs (channel_in s)).receive)
   delivers {cs} {s} {room} x g e =
       let d = (delivered-iff (channel_at cs (channel_in s)) s (length room) x).0 (sym g.called.answers ∙ e) in
       (d.0.read, d.1)
 
-  pub late : {cs : List Channel} {room : List ℕ} {a : Received} {cs' : List Channel} {room' : List ℕ} (j t : ℕ)
-      → Awaits cs t → j ≤ t → t < j + 256 → (j ≡ t → ⊥) → Took cs (request_of k j) room a cs' room' → (x : Request) → a ≡ Delivered x → ⊥
+  pub late : {cs : List Channel} {room : List ℕ} {a : Result Received Refusal} {cs' : List Channel} {room' : List ℕ} (j t : ℕ)
+      → Awaits cs t → j ≤ t → t < j + 256 → (j ≡ t → ⊥) → Took cs (request_of k j) room a cs' room' → (x : Request) → a ≡ Ok (Delivered x) → ⊥
   late {cs} j t w h l n g x e =
       let d = delivers x g e in
       let same : meant k j ≡ x = frame_is (sym (reads j) ∙ d.0) in
@@ -94,7 +94,7 @@ module _ (k : Client) (reads : (j : ℕ) → read_request (request_of k j) ≡ F
   once-from [] t cs (d ∷ ds) w p r = absurd r
   once-from (a ∷ rest) t cs [] w p r = absurd r
   once-from (damaged s ∷ rest) t cs (d ∷ ds) w p r =
-      let u = unmoved r.0.1.1 (λ x e. p.0 (ap (λ (y : RequestAnswer). (request_numbered y).number) (delivers x r.0.1.1 e).0)) in
+      let u = unmoved r.0.1.1 (λ x e. p.0 (ap (λ (y : Result Request Refusal). (request_numbered y).number) (delivers x r.0.1.1 e).0)) in
       rw u.0 (once-from rest t cs ds w p.1 (rw u.1 at r.1))
   once-from (copy j ∷ rest) t cs (d ∷ ds) w p r =
       go (λ w' q. once-from rest (suc t) d.table ds w' q r.1) (λ q r'. once-from rest t cs ds w q r') (eqb j t) refl p.1

@@ -1,6 +1,6 @@
 -- Why R-1 has counters: over one channel each of a client's messages is delivered once and in order, whatever copies of its requests the
 -- network repeats or damages. A client, what arrives of it, and the calls that receive it one after the other.
-use Rattle.std.specs.Prelude.{ℕ, zero, suc, ◌+◌, ◌%◌, ◌≤◌, ◌<◌, ◌≡◌, List, [], ◌∷◌, ◌++◌, Bool, false, cond, ◌||◌, length, eqb}
+use Rattle.std.specs.Prelude.{ℕ, zero, suc, ◌+◌, ◌%◌, ◌≤◌, ◌<◌, ◌≡◌, List, [], ◌∷◌, ◌++◌, Bool, false, cond, ◌||◌, length, eqb, Result, Ok, Err}
 use Rattle.octets.specs.Octets.{octet_at}
 use Rattle.cemi.specs.Answers.{cemi_numbered}
 use Rattle.cemi.specs.Reading.{message_in, body, read_cemi}
@@ -12,7 +12,8 @@ use Rattle.tunnelling.specs.Reading.{read_request}
 use Rattle.tunnelling.specs.declared.Request.{Request}
 use Rattle.exchange.specs.Receiving.{Took}
 use Rattle.exchange.specs.declared.Received.{Received}
-use Rattle.exchange.specs.declared.Received.TheVariants.{Delivered, Again, Refused}
+use Rattle.exchange.specs.declared.Received.TheVariants.{Delivered, Again}
+use Rattle.frame.specs.declared.Refusal.{Refusal}
 
 -- a client: the channel that it was given, the counter of its first request (0 on a fresh channel), and the octets of its messages one
 -- after the other, the first being number 0
@@ -72,7 +73,7 @@ comes j (damaged s ∷ rest) = comes j rest
 
 -- what a call leaves: its answer, the table and the room
 pub record Done : Type 0 where
-  pub answer : Received
+  pub answer : Result Received Refusal
   pub table : List Channel
   pub room : List ℕ
 
@@ -86,10 +87,10 @@ Receives k cs (a ∷ rest) (d ∷ ds) =
     ((room : List ℕ) × ((10 ≤ length room) × Took cs (datagram_of k a) room d.answer d.table d.room)) × Receives k d.table rest ds
 
 -- what they deliver
-abbrev pub delivered_of : Received → List Request
-delivered_of (Delivered x) = x ∷ []
-delivered_of Again = []
-delivered_of (Refused r) = []
+abbrev pub delivered_of : Result Received Refusal → List Request
+delivered_of (Ok (Delivered x)) = x ∷ []
+delivered_of (Ok Again) = []
+delivered_of (Err r) = []
 
 abbrev pub delivered_by : List Done → List Request
 delivered_by [] = []

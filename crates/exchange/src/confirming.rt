@@ -14,37 +14,37 @@ fn is_sent(channel: Channel, octets: &[u8]) -> bool
 }
 
 // From the channel's tests on.
-pub(crate) fn confirmed_behind(channel: Channel, octets: &[u8]) -> Confirmed
+pub(crate) fn confirmed_behind(channel: Channel, octets: &[u8]) -> Result<Confirmed, Refusal>
     ensures { result ≡ confirmed_behind channel octets.now }
 {
     let sent = is_sent(channel, octets);
     if channel.opened {
         if sent {
             if 10 < octets.len() {
-                return Confirmed::Refused(Refusal::LeftOver);
+                return Err(Refusal::LeftOver);
             }
             if octets::octet(octets, 9) == 0 {
-                Confirmed::Raised
+                Ok(Confirmed::Raised)
             } else {
-                Confirmed::Kept
+                Ok(Confirmed::Kept)
             }
         } else {
-            Confirmed::Refused(Refusal::OtherCounter)
+            Err(Refusal::OtherCounter)
         }
     } else {
-        Confirmed::Refused(Refusal::NotOpen)
+        Err(Refusal::NotOpen)
     }
 }
 
-pub(crate) fn channel_confirmed(answer: Confirmed, channel: Channel) -> Channel
+pub(crate) fn channel_confirmed(answer: Result<Confirmed, Refusal>, channel: Channel) -> Channel
     ensures { result ≡ channel_confirmed answer channel }
 {
     match answer {
-        Confirmed::Raised => {
+        Ok(Confirmed::Raised) => {
             let send = channels::raised(channel.send);
             channels::counted(channel, channel.receive, send)
         }
-        Confirmed::Kept => channel,
-        Confirmed::Refused(_) => channel,
+        Ok(Confirmed::Kept) => channel,
+        Err(_) => channel,
     }
 }

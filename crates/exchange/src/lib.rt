@@ -15,8 +15,8 @@ ghost use Rattle.exchange.specs.Sending.{SentOn, Sent};
 
 use cemi::{Codes, Message};
 use channels::{Channel, Table};
-use frame::{Refusal, Verdict, Written};
-use tunnelling::{Request, RequestAnswer};
+use frame::Refusal;
+use tunnelling::Request;
 
 const TUNNELLING_ACK: u16 = 0x0421;
 
@@ -25,12 +25,11 @@ const TUNNELLING_ACK: u16 = 0x0421;
 pub enum Received {
     Delivered(Request),
     Again,
-    Refused(Refusal),
 }
 
 #[derive(Clone, Copy)]
 pub struct Taken {
-    pub answer: Received,
+    pub answer: Result<Received, Refusal>,
     pub table: Table,
 }
 
@@ -39,17 +38,16 @@ pub struct Taken {
 pub enum Confirmed {
     Raised,
     Kept,
-    Refused(Refusal),
 }
 
 #[derive(Clone, Copy)]
 pub struct Settled {
-    pub answer: Confirmed,
+    pub answer: Result<Confirmed, Refusal>,
     pub table: Table,
 }
 
 // A request arrives on a channel: its acknowledgement goes to the front of the room.
-pub fn receive_on(channel: Channel, octets: &[u8], room: &mut [u8]) -> Received
+pub fn receive_on(channel: Channel, octets: &[u8], room: &mut [u8]) -> Result<Received, Refusal>
     ensures { ReceivedOn channel octets.now room.old result room.new }
 {
     let answer = receiving::received(channel, octets, room.len());
@@ -72,15 +70,15 @@ pub fn receive(table: Table, octets: &[u8], room: &mut [u8]) -> Taken
 }
 
 // The cEMI message of a request that was delivered, as a part of its octets; empty otherwise.
-pub fn message(answer: Received, octets: &[u8]) -> &[u8]
+pub fn message(answer: Result<Received, Refusal>, octets: &[u8]) -> &[u8]
     ensures { PartAt octets.entry result (delivered_at answer octets.now) (delivered_message answer octets.now) }
 {
     match answer {
-        Received::Delivered(request) => {
-            tunnelling::message(RequestAnswer::Frame(request), octets)
+        Ok(Received::Delivered(request)) => {
+            tunnelling::message(Ok(request), octets)
         }
-        Received::Again => &octets[..0],
-        Received::Refused(_) => &octets[..0],
+        Ok(Received::Again) => &octets[..0],
+        Err(_) => &octets[..0],
     }
 }
 
@@ -91,22 +89,22 @@ pub fn send_on(
     message: Message,
     payload: &[u8],
     room: &mut [u8],
-) -> Written
+) -> Result<usize, Refusal>
     ensures { SentOn channel number message payload.now room.old result room.new }
 {
     if cemi::in_range(Codes::All, message, payload.len()) {
         if channel.opened {
             tunnelling::write_request(number, channel.send, message, payload, room)
         } else {
-            Written::Refused(Refusal::NotOpen)
+            Err(Refusal::NotOpen)
         }
     } else {
-        Written::Refused(Refusal::OutOfRange)
+        Err(Refusal::OutOfRange)
     }
 }
 
 // A request goes out on the channel of a number; the table stays.
-pub fn send(table: Table, number: u8, message: Message, payload: &[u8], room: &mut [u8]) -> Written
+pub fn send(table: Table, number: u8, message: Message, payload: &[u8], room: &mut [u8]) -> Result<usize, Refusal>
     ensures { Sent table.channels number message payload.now room.old result room.new }
 {
     let channels = table.channels;
@@ -115,14 +113,11 @@ pub fn send(table: Table, number: u8, message: Message, payload: &[u8], room: &m
 }
 
 // An acknowledgement arrives on a channel.
-pub fn confirm_on(channel: Channel, octets: &[u8]) -> Confirmed
+pub fn confirm_on(channel: Channel, octets: &[u8]) -> Result<Confirmed, Refusal>
     ensures { result ≡ confirmed channel octets.now }
 {
-    let connection = tunnelling::read_connection(octets, TUNNELLING_ACK);
-    match connection {
-        Verdict::Refuse(refusal) => Confirmed::Refused(refusal),
-        Verdict::Fine => confirming::confirmed_behind(channel, octets),
-    }
+    tunnelling::read_connection(octets, TUNNELLING_ACK)?;
+    confirming::confirmed_behind(channel, octets)
 }
 
 // An acknowledgement arrives on the channel that it names.

@@ -5,9 +5,9 @@ ghost use Rattle.exchange.specs.Receiving.{is_expected, is_behind, received, cha
 ghost use Rattle.exchange.specs.Stages.{received_behind, received_message};
 
 use crate::Received;
-use cemi::{CemiAnswer, Codes};
+use cemi::Codes;
 use channels::Channel;
-use frame::{Refusal, Verdict};
+use frame::Refusal;
 use tunnelling::{Acknowledgement, Request};
 
 const TUNNELLING_REQUEST: u16 = 0x0420;
@@ -25,31 +25,31 @@ fn is_behind(channel: Channel, octets: &[u8]) -> bool
 }
 
 // From cEMI's tests on.
-fn received_message(expected: bool, octets: &[u8]) -> Received
+fn received_message(expected: bool, octets: &[u8]) -> Result<Received, Refusal>
     ensures { result ≡ received_message expected octets.now }
 {
     if octets.len() < 10 {
-        return Received::Refused(Refusal::TooFew);
+        return Err(Refusal::TooFew);
     }
     let read = cemi::read(Codes::All, &octets[10..]);
     match read {
-        CemiAnswer::Refused(refusal) => Received::Refused(refusal),
-        CemiAnswer::Frame(message) => {
+        Err(refusal) => Err(refusal),
+        Ok(message) => {
             if expected {
-                Received::Delivered(Request {
+                Ok(Received::Delivered(Request {
                     channel: octets::octet(octets, 7),
                     counter: octets::octet(octets, 8),
                     message,
-                })
+                }))
             } else {
-                Received::Again
+                Ok(Received::Again)
             }
         }
     }
 }
 
 // From the channel's tests on.
-fn received_behind(channel: Channel, octets: &[u8]) -> Received
+fn received_behind(channel: Channel, octets: &[u8]) -> Result<Received, Refusal>
     ensures { result ≡ received_behind channel octets.now }
 {
     if channel.opened {
@@ -58,36 +58,33 @@ fn received_behind(channel: Channel, octets: &[u8]) -> Received
         if known {
             received_message(expected, octets)
         } else {
-            Received::Refused(Refusal::OtherCounter)
+            Err(Refusal::OtherCounter)
         }
     } else {
-        Received::Refused(Refusal::NotOpen)
+        Err(Refusal::NotOpen)
     }
 }
 
-pub(crate) fn received(channel: Channel, octets: &[u8], room: usize) -> Received
+pub(crate) fn received(channel: Channel, octets: &[u8], room: usize) -> Result<Received, Refusal>
     ensures { result ≡ received channel octets.now room }
 {
     if room < 10 {
-        return Received::Refused(Refusal::SmallRoom);
+        return Err(Refusal::SmallRoom);
     }
-    let connection = tunnelling::read_connection(octets, TUNNELLING_REQUEST);
-    match connection {
-        Verdict::Refuse(refusal) => Received::Refused(refusal),
-        Verdict::Fine => received_behind(channel, octets),
-    }
+    tunnelling::read_connection(octets, TUNNELLING_REQUEST)?;
+    received_behind(channel, octets)
 }
 
-pub(crate) fn channel_after(answer: Received, channel: Channel) -> Channel
+pub(crate) fn channel_after(answer: Result<Received, Refusal>, channel: Channel) -> Channel
     ensures { result ≡ channel_after answer channel }
 {
     match answer {
-        Received::Delivered(_) => {
+        Ok(Received::Delivered(_)) => {
             let receive = channels::raised(channel.receive);
             channels::counted(channel, receive, channel.send)
         }
-        Received::Again => channel,
-        Received::Refused(_) => channel,
+        Ok(Received::Again) => channel,
+        Err(_) => channel,
     }
 }
 
@@ -100,16 +97,16 @@ fn acknowledge(octets: &[u8], room: &mut [u8])
         counter: octets::octet(octets, 8),
         status: 0,
     };
-    tunnelling::write_acknowledgement(acknowledgement, room);
+    let _ = tunnelling::write_acknowledgement(acknowledgement, room);
 }
 
 // What goes back to the sender; nothing with a refusal.
-pub(crate) fn send_back(answer: Received, octets: &[u8], room: &mut [u8])
+pub(crate) fn send_back(answer: Result<Received, Refusal>, octets: &[u8], room: &mut [u8])
     ensures { room.new ≡ laid (sent_back answer octets.now) 0 room.old }
 {
     match answer {
-        Received::Delivered(_) => acknowledge(octets, room),
-        Received::Again => acknowledge(octets, room),
-        Received::Refused(_) => {}
+        Ok(Received::Delivered(_)) => acknowledge(octets, room),
+        Ok(Received::Again) => acknowledge(octets, room),
+        Err(_) => {}
     }
 }

@@ -1,5 +1,6 @@
 -- An answer's number and values lose nothing. The law is said once, of any enum that is an answer with values or a refusal; each crate's
 -- `proofs/Answers.antt` cites it.
+use Rattle.std.specs.Prelude.{Result, Ok, Err}
 use Prim.Native.Nat.{ℕ, ◌≤◌}
 use mathlib.Core.Bool.{Bool, true, false}
 use mathlib.Core.List.{List, [], ◌∷◌}
@@ -12,10 +13,6 @@ use Rattle.frame.specs.Answers.{Numbered, accepted, refused, meaning_values, wri
 use Rattle.frame.specs.Refusals.{number, last_number}
 use Rattle.frame.specs.declared.Meaning.{Meaning}
 use Rattle.frame.specs.declared.Refusal.{Refusal}
-use Rattle.frame.specs.declared.Verdict.TheVariants.{Fine, Refuse}
-use Rattle.frame.specs.declared.Verdict.{Verdict}
-use Rattle.frame.specs.declared.Written.TheVariants.{Put, Refused}
-use Rattle.frame.specs.declared.Written.{Written}
 use Rattle.octets.specs.Octets.{weigh}
 
 -- an answer carries values or is a refusal
@@ -87,20 +84,20 @@ meaning-apart m n e =
     λ i. record { extended = extended i; first = first i; priority = at 2 i; source = at 3 i; group = group i; destination = at 5 i; count = at 6 i }
 
 -- a writer's answer
-written-split : (w : Written) → Split Put Refused w
-written-split (Put n) = answers n refl
-written-split (Refused r) = refuses r refl
+written-split : (w : Result ℕ Refusal) → Split Ok Err w
+written-split (Ok n) = answers n refl
+written-split (Err r) = refuses r refl
 
-pub written-tells : Tells Refused written_numbered
-written-tells = tells Put Refused (λ n. n ∷ []) written_numbered written-split (λ n. refl) (λ r. refl) (λ a b e. ap (λ (l : List ℕ). get_or l 0 0) e)
+pub written-tells : Tells Err written_numbered
+written-tells = tells Ok Err (λ n. n ∷ []) written_numbered written-split (λ n. refl) (λ r. refl) (λ a b e. ap (λ (l : List ℕ). get_or l 0 0) e)
 
 -- a verdict: where nothing is refused there are no values
-abbrev fine : Unit {0} → Verdict
-fine u = Fine
+abbrev fine : Unit {0} → Result (Unit {0}) Refusal
+fine u = Ok tt
 
-verdict-split : (v : Verdict) → Split fine Refuse v
-verdict-split Fine = answers tt refl
-verdict-split (Refuse r) = refuses r refl
+verdict-split : (v : Result (Unit {0}) Refusal) → Split fine Err v
+verdict-split (Ok _) = answers tt refl
+verdict-split (Err r) = refuses r refl
 
-pub verdict-tells : Tells Refuse verdict_numbered
-verdict-tells = tells fine Refuse (λ u. []) verdict_numbered verdict-split (λ u. refl) (λ r. refl) (λ u v e. refl)
+pub verdict-tells : Tells Err verdict_numbered
+verdict-tells = tells fine Err (λ u. []) verdict_numbered verdict-split (λ u. refl) (λ r. refl) (λ u v e. refl)

@@ -1,14 +1,10 @@
 -- Document 01: "For an answer that is an enum, a definition gives this paper's number and values for each of its cases. The promises use
 -- this definition." Each enum's stands in `specs/Answers.antt` of its own crate.
-use Rattle.std.specs.Prelude.{ℕ, List, [], ◌∷◌}
+use Rattle.std.specs.Prelude.{ℕ, List, [], ◌∷◌, Result, Ok, Err}
 use Rattle.octets.specs.Octets.{weigh}
 use Rattle.frame.specs.Refusals.{number}
 use Rattle.frame.specs.declared.Meaning.{Meaning}
 use Rattle.frame.specs.declared.Refusal.{Refusal}
-use Rattle.frame.specs.declared.Verdict.TheVariants.{Fine, Refuse}
-use Rattle.frame.specs.declared.Verdict.{Verdict}
-use Rattle.frame.specs.declared.Written.TheVariants.{Put, Refused}
-use Rattle.frame.specs.declared.Written.{Written}
 
 -- an answer as its number and its values
 pub record Numbered : Type 0 where
@@ -37,11 +33,11 @@ meaning_values m =
     ∷ []
 
 -- a writer's: how many octets of the room are the frame's
-abbrev pub written_numbered : Written → Numbered
-written_numbered (Put n) = accepted (n ∷ [])
-written_numbered (Refused r) = refused r
+abbrev pub written_numbered : Result ℕ Refusal → Numbered
+written_numbered (Ok n) = accepted (n ∷ [])
+written_numbered (Err r) = refused r
 
 -- a header, settings, or a site with its stores: nothing is refused, or the first refusal's number
-abbrev pub verdict_numbered : Verdict → Numbered
-verdict_numbered Fine = accepted []
-verdict_numbered (Refuse r) = refused r
+abbrev pub verdict_numbered : Result (Unit {0}) Refusal → Numbered
+verdict_numbered (Ok _) = accepted []
+verdict_numbered (Err r) = refused r

@@ -48,20 +48,6 @@ pub enum Refusal {
     PastTotal,
 }
 
-// What tests in their order find: nothing to refuse, or the first refusal.
-#[derive(Clone, Copy)]
-pub enum Verdict {
-    Fine,
-    Refuse(Refusal),
-}
-
-// What a writer answers: how many octets of the room are the frame's, or why it wrote none.
-#[derive(Clone, Copy)]
-pub enum Written {
-    Put(usize),
-    Refused(Refusal),
-}
-
 impl Refusal {
     pub fn number(self) -> u8
         ensures { result ≡ number self }

@@ -1,5 +1,6 @@
 -- In a well-formed site every coupler that is fitted has a line that is not 00h, codes that are allowed and a table that fits them, so
 -- that its step refuses none of its settings.
+use Rattle.std.specs.Prelude.{Ok}
 use Prim.Native.Nat.{ℕ, ◌≤◌, ◌<◌}
 use mathlib.Core.Bool.{Bool, true, false, not, cond, ◌||◌}
 use mathlib.Core.List.{List, [], ◌∷◌}
@@ -10,7 +11,6 @@ use borrow.Author.Tests.{eqb-true, not-false, lt-ltb, le-ltb, eq-eqb}
 use Rattle.coupler.specs.Step.{setting_tests}
 use Rattle.frame.proofs.Order.{passed-iff}
 use Rattle.frame.specs.Order.{first_of, NoneOf}
-use Rattle.frame.specs.declared.Verdict.TheVariants.{Fine}
 use Rattle.journey.specs.Journey.{AtWork, is_ip, setting_by}
 use Rattle.octets.proofs.Truth.{by_cases, never}
 use Rattle.octets.specs.Octets.{Octets}
@@ -37,7 +37,7 @@ set-in st line found lines (r ∷ rs) h n e =
     go true q w = record { place = eqb-true (line_of r) line q; codes = n.1.0; table = not-false (has_table st r) n.1.1.0 }
     go false q w = h w
 
-pub fitted-set : (st : Stores) (site : List ℕ) → first_of (site_tests st site) ≡ Fine → (line : ℕ) → is_fitted (coupler_of line (records_of site)) ≡ true
+pub fitted-set : (st : Stores) (site : List ℕ) → first_of (site_tests st site) ≡ Ok tt → (line : ℕ) → is_fitted (coupler_of line (records_of site)) ≡ true
     → IsSet st line (coupler_of line (records_of site))
 unfolding site_tests coupler_of
 fitted-set st site w line e =
@@ -71,7 +71,7 @@ table_fits-is_true st r h =
     (λ e. let a : eqb (length (table_of (table_number r) st)) 8192 ≡ true = rw e at h in rw a refl)
 
 -- the step's settings pass
-pub set-passes : (w : AtWork) (line : ℕ) (r : List ℕ) → IsSet w.stores line r → (side room : ℕ) → side < 2 → 272 ≤ room → first_of (setting_tests (setting_by w r side) room) ≡ Fine
+pub set-passes : (w : AtWork) (line : ℕ) (r : List ℕ) → IsSet w.stores line r → (side room : ℕ) → side < 2 → 272 ≤ room → first_of (setting_tests (setting_by w r side) room) ≡ Ok tt
 set-passes w line r x side room h n =
     (passed-iff (setting_tests (setting_by w r side) room)).1
     (x.codes, (ap not (table_fits-is_true w.stores r x.table), (rw (lt-ltb side 2 h) (ap not (medium (is_ip w (main_side (line_of r))))), (le-ltb room 272 n, tt))))

@@ -1,5 +1,6 @@
 -- One coupler: the step of a fitted coupler hands a valid first sending on exactly if the coupler lets it pass and its count is not used
 -- up, and then with its count by the coupler's hop rule.
+use Rattle.std.specs.Prelude.{Result, Ok, Err}
 use Prim.Native.Nat.{ℕ, zero, suc, ◌≤◌, ◌<◌}
 use mathlib.Core.Bool.{Bool, true, false, not, cond, ◌&&◌}
 use mathlib.Core.List.{List}
@@ -10,7 +11,6 @@ use lib.ListN.{length, take, drop, replicate}
 use lib.Seq.{take_at}
 use borrow.Author.Tests.{ltb-true, not-false}
 use Rattle.cemi.specs.Writing.{message_in_range}
-use Rattle.cemi.specs.declared.CemiAnswer.{CemiAnswer}
 use Rattle.coupler.proofs.Promised.{Forwardable, Forwards, forwarded-iff, sent_is}
 use Rattle.coupler.specs.Memory.{recalled, side_of, is_repetition}
 use Rattle.coupler.specs.Step.{Coupler, setting_tests, from_ip, to_ip, Heard, heard_tp1, heard_ip, read_by, after, heard, kind_of, repeats, forwarded_meaning, indication, form_of, forwarded_octets, outcome_by, sent_by, outcome_of, sent, memory_after, Did, frame, nothing}
@@ -18,8 +18,6 @@ use Rattle.coupler.specs.declared.Memory.{Memory}
 use Rattle.coupler.specs.declared.Outcome.{Outcome}
 use Rattle.frame.proofs.Order.{passed-iff}
 use Rattle.frame.specs.Order.{first_of}
-use Rattle.frame.specs.declared.Verdict.TheVariants.{Fine, Refuse}
-use Rattle.frame.specs.declared.Verdict.{Verdict}
 use Rattle.frame.specs.Valid.{Valid}
 use Rattle.frame.specs.declared.Meaning.{Meaning}
 use Rattle.journey.proofs.Fitted.{IsSet, fitted-set, fitted_line, set-passes}
@@ -35,8 +33,9 @@ use Rattle.tp1.proofs.Refusals.{accepted-iff}
 use Rattle.tp1.proofs.RoundTrip.{laid-read, laid-payload}
 use Rattle.tp1.specs.Layout.{tp1_octets}
 use Rattle.tp1.specs.Reading.{meaning_in}
-use Rattle.tp1.specs.declared.Tp1Answer.{Tp1Answer}
 use Rattle.tracer.specs.Lines.{main_side, Crossing, crossing, from_line, to_line}
+use Rattle.frame.specs.declared.Refusal.{Refusal}
+use Rattle.cemi.specs.declared.Message.{Message}
 
 -- a telegram in the form of a medium
 abbrev form : Bool → Meaning → List ℕ → List ℕ
@@ -47,11 +46,11 @@ form-read : (ip : Bool) (m : Meaning) (p : List ℕ) → Valid m p → read_by i
 unfolding message_in_range
 form-read true m p v =
     let s : List ℕ = form true m p in
-    ap (λ (t : CemiAnswer). heard_ip t s) (routing-read (indication m) p (record { ranges = v.ranges; valid = v }))
+    ap (λ (t : Result Message Refusal). heard_ip t s) (routing-read (indication m) p (record { ranges = v.ranges; valid = v }))
     ∙ ap (frame m) (routing-payload (indication m) p)
 form-read false m p v =
     let s : List ℕ = form false m p in
-    ap (λ (t : Tp1Answer). heard_tp1 t s) (laid-read m p v)
+    ap (λ (t : Result Meaning Refusal). heard_tp1 t s) (laid-read m p v)
     ∙ ap (frame m) (laid-payload m p)
 
 pub form-on-read : (w : AtWork) (line : ℕ) (m : Meaning) (p : List ℕ) → Valid m p → read_by (is_ip w line) (form_on w line m p) ≡ frame m p
@@ -111,15 +110,15 @@ unfolding a_room
 room-enough = omega arith
 
 -- a step that forwards has found nothing wrong with its settings
-forwards-set : (k : Coupler) (remembered s : List ℕ) (room : ℕ) → Forwards k remembered s (heard k s room) → first_of (setting_tests k room) ≡ Fine
+forwards-set : (k : Coupler) (remembered s : List ℕ) (room : ℕ) → Forwards k remembered s (heard k s room) → first_of (setting_tests k room) ≡ Ok tt
 unfolding heard
 forwards-set k remembered s room = go (first_of (setting_tests k room))
   where
-    go : (v : Verdict) → Forwards k remembered s (after v (read_by (from_ip k) s)) → v ≡ Fine
-    go Fine f = refl
-    go (Refuse r) f = absurd f
+    go : (v : Result (Unit {0}) Refusal) → Forwards k remembered s (after v (read_by (from_ip k) s)) → v ≡ Ok tt
+    go (Ok _) f = refl
+    go (Err r) f = absurd f
 
-module _ (w : AtWork) (ok : first_of (site_tests w.stores w.site) ≡ Fine) (x : Crossing) where
+module _ (w : AtWork) (ok : first_of (site_tests w.stores w.site) ≡ Ok tt) (x : Crossing) where
   abbrev fitting : List ℕ
   fitting = own_coupler w x.line
 
@@ -176,7 +175,7 @@ module _ (w : AtWork) (ok : first_of (site_tests w.stores w.site) ≡ Fine) (x :
     heard-by : is_fitted fitting ≡ true → x.direction < 2 → (room : ℕ) → 272 ≤ room → heard coupler received room ≡ frame m p
     unfolding heard
     heard-by e side room n =
-        ap (λ (y : Verdict). after y (read_by (from_ip coupler) received)) (set-passes w x.line fitting (is_set e) x.direction room side n)
+        ap (λ (y : Result (Unit {0}) Refusal). after y (read_by (from_ip coupler) received)) (set-passes w x.line fitting (is_set e) x.direction room side n)
         ∙ ap (λ (ip : Bool). read_by ip received) (from-ip e side)
         ∙ form-on-read w (from_line x) m p v
 
@@ -226,7 +225,7 @@ module _ (w : AtWork) (ok : first_of (site_tests w.stores w.site) ≡ Fine) (x :
         }
 
 -- there is no coupler of 00h: the backbone is IP exactly if it is meant to be
-pub backbone-ip : (w : AtWork) → first_of (site_tests w.stores w.site) ≡ Fine → is_ip w 0 ≡ w.meant_ip 0
+pub backbone-ip : (w : AtWork) → first_of (site_tests w.stores w.site) ≡ Ok tt → is_ip w 0 ≡ w.meant_ip 0
 backbone-ip w ok =
     by_cases (is_fitted (own_coupler w 0))
     (λ e. absurd (fitted_line w.stores 0 (own_coupler w 0) (fitted-set w.stores w.site ok 0 e) refl))

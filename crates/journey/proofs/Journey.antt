@@ -1,6 +1,7 @@
 -- The list is what the couplers do. From arrival to list: the octets that arrive are the first sending with its count by the distance, over
 -- the couplers of the path, so that another coupler than the last makes the path longer. From list to arrival: along the path, by the
 -- distance.
+use Rattle.std.specs.Prelude.{Ok}
 use Prim.Native.Nat.{ℕ, zero, suc, ◌<◌}
 use mathlib.Core.Bool.{Bool, true, false, not, ◌&&◌}
 use mathlib.Core.List.{List, [], ◌∷◌, ◌++◌}
@@ -14,7 +15,6 @@ use Rattle.coupler.specs.Step.{read_by, kind_of, forwarded_meaning, frame}
 use Rattle.coupler.specs.declared.Setting.{Setting}
 use Rattle.frame.proofs.Valid.{ranges-of, ranged}
 use Rattle.frame.specs.Order.{first_of}
-use Rattle.frame.specs.declared.Verdict.TheVariants.{Fine}
 use Rattle.frame.specs.Valid.{Valid}
 use Rattle.frame.specs.declared.Meaning.{Meaning}
 use Rattle.journey.proofs.Fitted.{fitted_line, fitted-below}
@@ -45,7 +45,7 @@ forwarded-with w x start m count e =
     let n : ℕ = hopped_in (asked_of w start m) count in
     λ i. record { extended = m.extended; first = f i; priority = m.priority; source = m.source; group = m.group; destination = m.destination; count = n }
 
-module _ (w : AtWork) (ok : first_of (site_tests w.stores w.site) ≡ Fine) (start : ℕ) (m : Meaning) (p : List ℕ) (v : Valid m p) (new : m.first ≡ true) where
+module _ (w : AtWork) (ok : first_of (site_tests w.stores w.site) ≡ Ok tt) (start : ℕ) (m : Meaning) (p : List ℕ) (v : Valid m p) (new : m.first ≡ true) where
   abbrev asked : Query
   asked = asked_of w start m
 

@@ -1,5 +1,6 @@
 -- The block is two halves of 265 octets, each the remembered frame of a side: read out of the block, and put into it, as the step inside
 -- has it by value.
+use Rattle.std.specs.Prelude.{Err}
 use Prim.Native.Nat.{ℕ, ◌+◌, ◌-◌, ◌%◌, ◌≤◌}
 use mathlib.Core.Bool.{Bool, true, false, not, cond, ◌&&◌, ◌||◌}
 use mathlib.Core.List.{List, [], ◌∷◌, ◌++◌}
@@ -18,7 +19,6 @@ use Rattle.frame.proofs.Numbers.{refused-number}
 use Rattle.frame.specs.declared.Meaning.{Meaning}
 use Rattle.frame.specs.declared.Refusal.{Refusal}
 use Rattle.frame.specs.declared.Refusal.TheVariants.{WrongSetting, NoTable, OutOfRange}
-use Rattle.frame.specs.declared.Verdict.TheVariants.{Refuse}
 use Rattle.klumdray.specs.Block.{remembered_in, memory_in, half_of, block_of, codes_in, coupler_set, outcome_number, are_settings, lent_right, heard_through, SteppedThrough}
 use Rattle.klumdray.specs.Stages.{side_or_none, start_of, kept_in, remembered_at}
 use Rattle.octets.proofs.Octets.{octets-take, octets-drop}
@@ -192,7 +192,7 @@ unsided-heard settings table s room side e =
     h : Heard
     h = read_by (from_ip (coupler_set settings side table)) s
 
-    go : (wrong untabled : Bool) → after (cond wrong (Refuse WrongSetting) (cond untabled (Refuse NoTable) (Refuse OutOfRange))) h ≡ nothing (cond wrong WrongSetting (cond untabled NoTable OutOfRange))
+    go : (wrong untabled : Bool) → after (cond wrong (Err WrongSetting) (cond untabled (Err NoTable) (Err OutOfRange))) h ≡ nothing (cond wrong WrongSetting (cond untabled NoTable OutOfRange))
     go true untabled = refl
     go false true = refl
     go false false = refl

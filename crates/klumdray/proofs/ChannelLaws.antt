@@ -1,5 +1,6 @@
 -- The block is so many channels of three octets each: a channel read out of it, and a counter raised in it, as the calls inside have the
 -- table by value. Everything is said over the number of channels.
+use Rattle.std.specs.Prelude.{Result, Ok, Err}
 use Prim.Native.Nat.{ℕ, zero, suc, ◌+◌, ◌-◌, ◌*◌, ◌≤◌}
 use mathlib.Core.Bool.{Bool, true, false, cond, ◌&&◌}
 use mathlib.Core.List.{List, [], ◌∷◌}
@@ -20,12 +21,10 @@ use Rattle.exchange.specs.Receiving.{received, sent_back, delivered_message, Rec
 use Rattle.exchange.specs.Sending.{send_tests, sent_by, sent, SentOn}
 use Rattle.exchange.specs.declared.Confirmed.{Confirmed}
 use Rattle.exchange.specs.declared.Received.{Received}
-use Rattle.frame.proofs.Apart.{put_refused, unwritten-one}
+use Rattle.frame.proofs.Apart.{err-ok, err-one}
 use Rattle.frame.proofs.Order.{answer-iff}
 use Rattle.frame.specs.Writing.{room_after}
 use Rattle.frame.specs.declared.Refusal.TheVariants.{OutOfRange, NotOpen}
-use Rattle.frame.specs.declared.Written.TheVariants.{Put, Refused}
-use Rattle.frame.specs.declared.Written.{Written}
 use Rattle.klumdray.proofs.WriterNumbers.{request-most}
 use Rattle.klumdray.specs.Channels.{channel_size, channels_from, channels_in, are_channels, with_octet, block_received, block_confirmed, received_number, delivered_payload, confirmed_number, received_through, confirmed_through, sent_through, TookThrough, SentThrough, ConfirmedThrough}
 use Rattle.klumdray.specs.Numbers.{written_number}
@@ -35,6 +34,7 @@ use Rattle.octets.specs.Octets.{octet_at}
 use Rattle.octets.specs.Room.{over}
 use Rattle.tunnelling.specs.Layout.{request_octets}
 use Rattle.tunnelling.specs.Reading.{channel_in}
+use Rattle.frame.specs.declared.Refusal.{Refusal}
 
 -- the places as the code works them out: of a number that is not 0
 
@@ -85,7 +85,7 @@ module _ (block : List ℕ) (right : are_channels block ≡ true) where
   held k = held_at many k block (eqb-true (length block) (channel_size * many) right)
 
 -- receiving a request, as its parts
-pub took-fit : (block s room : List ℕ) {n : ℕ} {c : Channel} {a : Received} {m block' room' : List ℕ} {answer : ℕ} → are_channels block ≡ true
+pub took-fit : (block s room : List ℕ) {n : ℕ} {c : Channel} {a : Result Received Refusal} {m block' room' : List ℕ} {answer : ℕ} → are_channels block ≡ true
     → n ≡ channel_in s → c ≡ held_channel block n → ReceivedOn c s room a room' → block' ≡ block_received a c n block → m ≡ delivered_message a s
     → answer ≡ received_number a (length (delivered_payload a m))
     → TookThrough block s room answer block' room'
@@ -96,9 +96,9 @@ took-fit block s room {n} {c} {a} right eₙ e y w eₘ eᵣ =
     let f : c ≡ h = e ∙ held block right n ∙ ap (channel_at (channels_in block)) eₙ in
     let g : a ≡ received_through block s (length room) = rw right (y.answers ∙ ap (λ (x : Channel). received x s (length room)) f) in
     record {
-      answers = eᵣ ∙ ap (λ (l : List ℕ). received_number a (length (delivered_payload a l))) eₘ ∙ ap (λ (x : Received). received_number x (length (delivered_payload x (delivered_message x s)))) g;
-      channels = w ∙ ap (λ (i : ℕ). block_received a c i block) eₙ ∙ ap (λ (x : Channel). block_received a x k block) f ∙ ap (λ (x : Received). block_received x h k block) g;
-      left = y.left ∙ ap (λ (x : Received). over (sent_back x s) room) g;
+      answers = eᵣ ∙ ap (λ (l : List ℕ). received_number a (length (delivered_payload a l))) eₘ ∙ ap (λ (x : Result Received Refusal). received_number x (length (delivered_payload x (delivered_message x s)))) g;
+      channels = w ∙ ap (λ (i : ℕ). block_received a c i block) eₙ ∙ ap (λ (x : Channel). block_received a x k block) f ∙ ap (λ (x : Result Received Refusal). block_received x h k block) g;
+      left = y.left ∙ ap (λ (x : Result Received Refusal). over (sent_back x s) room) g;
     }
 
 pub took-unfit : (block s room : List ℕ) → are_channels block ≡ false → TookThrough block s room 14 block room
@@ -106,7 +106,7 @@ unfolding received_through
 took-unfit block s room f = record { answers = rw f refl; channels = rw f refl; left = rw f refl }
 
 -- receiving an acknowledgement, as its parts
-pub confirmed-fit : (block s : List ℕ) {n : ℕ} {c : Channel} {a : Confirmed} {block' : List ℕ} {answer : ℕ} → are_channels block ≡ true
+pub confirmed-fit : (block s : List ℕ) {n : ℕ} {c : Channel} {a : Result Confirmed Refusal} {block' : List ℕ} {answer : ℕ} → are_channels block ≡ true
     → n ≡ channel_in s → c ≡ held_channel block n → a ≡ confirmed c s → block' ≡ block_confirmed a c n block → answer ≡ confirmed_number a
     → ConfirmedThrough block s answer block'
 unfolding confirmed_through
@@ -117,7 +117,7 @@ confirmed-fit block s {n} {c} {a} right eₙ e y w eᵣ =
     let g : a ≡ confirmed_through block s = rw right (y ∙ ap (λ (x : Channel). confirmed x s) f) in
     record {
       answers = eᵣ ∙ ap confirmed_number g;
-      channels = w ∙ ap (λ (i : ℕ). block_confirmed a c i block) eₙ ∙ ap (λ (x : Channel). block_confirmed a x k block) f ∙ ap (λ (x : Confirmed). block_confirmed x h k block) g;
+      channels = w ∙ ap (λ (i : ℕ). block_confirmed a c i block) eₙ ∙ ap (λ (x : Channel). block_confirmed a x k block) f ∙ ap (λ (x : Result Confirmed Refusal). block_confirmed x h k block) g;
     }
 
 pub confirmed-unfit : (block s : List ℕ) → are_channels block ≡ false → ConfirmedThrough block s 14 block
@@ -126,23 +126,23 @@ confirmed-unfit block s f = record { answers = rw f refl; channels = rw f refl }
 
 -- sending: a number that is no octet is no channel's
 
-closed-sent : (ranged : Bool) (c : Channel) (octets : List ℕ) (room : ℕ) → c.opened ≡ false → sent_by ranged c octets room ≡ Refused (cond ranged NotOpen OutOfRange)
+closed-sent : (ranged : Bool) (c : Channel) (octets : List ℕ) (room : ℕ) → c.opened ≡ false → sent_by ranged c octets room ≡ Err (cond ranged NotOpen OutOfRange)
 unfolding sent_by
 closed-sent true c octets room e = rw e
 closed-sent false c octets room e = refl
 
-pub sent-put : (ranged : Bool) (c : Channel) (octets : List ℕ) (room k : ℕ) → sent_by ranged c octets room ≡ Put k → (ranged ≡ true) × (length octets ≡ k)
+pub sent-put : (ranged : Bool) (c : Channel) (octets : List ℕ) (room k : ℕ) → sent_by ranged c octets room ≡ Ok k → (ranged ≡ true) × (length octets ≡ k)
 unfolding sent_by
 sent-put ranged c octets room k e =
-    let w = (answer-iff Refused (λ q r. unwritten-one) (send_tests ranged c octets room) (Put (length octets)) (Put k) (λ r. put_refused)).0 e in
+    let w = (answer-iff Err (λ q r. err-one) (send_tests ranged c octets room) (Ok (length octets)) (Ok k) (λ r. err-ok)).0 e in
     (not-false ranged w.0.0, cc)
 
 -- a size that is sent has a number
-pub sent-sized : {c : Channel} {n : ℕ} {x : Message} {p room room' : List ℕ} (w : Written) → SentOn c n x p room w room' → Sized w
-sent-sized {c} {n} {x} {p} {room} (Put k) y =
+pub sent-sized : {c : Channel} {n : ℕ} {x : Message} {p room room' : List ℕ} (w : Result ℕ Refusal) → SentOn c n x p room w room' → Sized w
+sent-sized {c} {n} {x} {p} {room} (Ok k) y =
     let e = sent-put (message_in_range All x (length p)) c (request_octets n c.send x p) (length room) k (sym y.answers) in
     omega (arith, e.1, request-most true n c.send x p e.0)
-sent-sized (Refused r) y = tt
+sent-sized (Err r) y = tt
 
 module _ (fit : Bool) (block : List ℕ) (n : ℕ) (x : Message) (p room : List ℕ) where
   abbrev ranged : Bool
@@ -152,30 +152,30 @@ module _ (fit : Bool) (block : List ℕ) (n : ℕ) (x : Message) (p room : List 
   c = channel_at (channels_in block) n
 
   -- on the channel of the number
-  sent-held : {w : Written} {room' : List ℕ} {answer : ℕ} → are_channels block && fit ≡ true → SentOn (held_channel block n) n x p room w room' → answer ≡ written_number w
+  sent-held : {w : Result ℕ Refusal} {room' : List ℕ} {answer : ℕ} → are_channels block && fit ≡ true → SentOn (held_channel block n) n x p room w room' → answer ≡ written_number w
       → SentThrough fit block n x p room answer room'
   sent-held {w} right y e =
       let h : held_channel block n ≡ c = held block (and-true (are_channels block) fit right).0 n in
       let f : w ≡ sent_through fit block n x p (length room) = rw right (y.answers ∙ ap (sent n x p (length room)) h) in
       record {
         answers = e ∙ ap written_number f;
-        left = y.left ∙ ap (λ (d : Channel). room_after w (request_octets n d.send x p) room) h ∙ ap (λ (v : Written). room_after v (request_octets n c.send x p) room) f;
+        left = y.left ∙ ap (λ (d : Channel). room_after w (request_octets n d.send x p) room) h ∙ ap (λ (v : Result ℕ Refusal). room_after v (request_octets n c.send x p) room) f;
       }
 
   -- on none
-  sent-none : {w : Written} {room' : List ℕ} {answer : ℕ} → are_channels block && fit ≡ true → ltb n 256 ≡ false → SentOn (held_channel block 0) 0 x p room w room' → answer ≡ written_number w
+  sent-none : {w : Result ℕ Refusal} {room' : List ℕ} {answer : ℕ} → are_channels block && fit ≡ true → ltb n 256 ≡ false → SentOn (held_channel block 0) 0 x p room w room' → answer ≡ written_number w
       → SentThrough fit block n x p room answer room'
   sent-none {w} right none y e =
-      let v : Written = Refused (cond ranged NotOpen OutOfRange) in
+      let v : (Result ℕ Refusal) = Err (cond ranged NotOpen OutOfRange) in
       let f : w ≡ v = y.answers ∙ closed-sent ranged (held_channel block 0) (request_octets 0 0 x p) (length room) refl in
       let shut : c.opened ≡ false = ap (λ (d : Channel). d.opened) (at_none (channels_in block) n (omega (arith, length_from many block, ltb-false n 256 none))) in
       let g : v ≡ sent_through fit block n x p (length room) = rw right (sym (closed-sent ranged c (request_octets n c.send x p) (length room) shut)) in
       record {
         answers = e ∙ ap written_number (f ∙ g);
-        left = y.left ∙ ap (λ (u : Written). room_after u (request_octets 0 0 x p) room) f ∙ ap (λ (u : Written). room_after u (request_octets n c.send x p) room) g;
+        left = y.left ∙ ap (λ (u : Result ℕ Refusal). room_after u (request_octets 0 0 x p) room) f ∙ ap (λ (u : Result ℕ Refusal). room_after u (request_octets n c.send x p) room) g;
       }
 
-  pub sent-fit : {w : Written} {room' : List ℕ} {answer : ℕ} → are_channels block && fit ≡ true → SentOn (held_channel block (channel_or_none n)) (channel_or_none n) x p room w room' → answer ≡ written_number w
+  pub sent-fit : {w : Result ℕ Refusal} {room' : List ℕ} {answer : ℕ} → are_channels block && fit ≡ true → SentOn (held_channel block (channel_or_none n)) (channel_or_none n) x p room w room' → answer ≡ written_number w
       → SentThrough fit block n x p room answer room'
   sent-fit {w} {room'} right y e =
       by_cases (ltb n 256)

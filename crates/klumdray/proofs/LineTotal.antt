@@ -1,4 +1,5 @@
 -- A series of frames taken through the surface: the total in the block is the start and the values of what the answers say was counted.
+use Rattle.std.specs.Prelude.{Result, Ok, Err}
 use Prim.Native.Nat.{ℕ, ◌+◌, ◌*◌}
 use mathlib.Core.Bool.{cond}
 use mathlib.Core.List.{List, [], ◌∷◌}
@@ -18,7 +19,7 @@ use Rattle.station.proofs.Exactly.{After, tallied, code-small}
 use Rattle.station.specs.Taking.{taken_by}
 use Rattle.station.specs.declared.Tally.{Tally}
 use Rattle.station.specs.declared.Telegram.{Telegram}
-use Rattle.station.specs.declared.Telegram.TheVariants.{Increment, Repetition, OtherGroup, NoIncrement, Refused}
+use Rattle.station.specs.declared.Telegram.TheVariants.{Increment, Repetition, OtherGroup, NoIncrement}
 use Rattle.klumdray.specs.Block.{remembered_in}
 use Rattle.klumdray.specs.Decoding.{taken_in, code_in}
 use Rattle.klumdray.specs.LineSeries.{Took, FollowsTaking, last_total, counted_codes}
@@ -35,19 +36,19 @@ module _ (total memory : List ℕ) (group : ℕ) (s : List ℕ) (o : Octets s) (
   none-refused r = let z : taken_in (number r) ≡ 0 = omega (arith, (number-listed r).1) in rw z
 
   -- by what the frame was
-  told : (frame : List ℕ) (t : Telegram) (after : ℤ) → After (total_in total) group frame s t after
+  told : (frame : List ℕ) (t : Result Telegram Refusal) (after : ℤ) → After (total_in total) group frame s t after
       → total_in (total_taken after t total) +ℤ sum_of rest ≡ total_in total +ℤ sum_of (counted_by (telegram_number t) rest)
-  told frame (Increment code) after a =
+  told frame (Ok (Increment code)) after a =
       let small = code-small group frame s code o a.0 in
       let one : taken_in (256 + code * 65536) ≡ 1 = omega arith in
       let same : code_in (256 + code * 65536) ≡ code = omega arith in
       rw (one, same)
       (ap (λ (z : ℤ). z +ℤ sum_of rest) (total-back after (sum-small (total_in total) code after a.1.0) ∙ a.1.1)
       ∙ +ℤ_assoc (total_in total) (hundredths_of code) (sum_of rest))
-  told frame Repetition after a = refl
-  told frame OtherGroup after a = refl
-  told frame NoIncrement after a = refl
-  told frame (Refused r) after a = ap (λ (l : List ℕ). total_in total +ℤ sum_of l) (sym (none-refused r))
+  told frame (Ok Repetition) after a = refl
+  told frame (Ok OtherGroup) after a = refl
+  told frame (Ok NoIncrement) after a = refl
+  told frame (Err r) after a = ap (λ (l : List ℕ). total_in total +ℤ sum_of l) (sym (none-refused r))
 
   pub taken-one : {answer : ℕ} {total' memory' : List ℕ} → TookFrame total memory group s answer total' memory'
       → total_in total' +ℤ sum_of rest ≡ total_in total +ℤ sum_of (counted_by answer rest)

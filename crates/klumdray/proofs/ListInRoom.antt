@@ -1,5 +1,6 @@
 -- The list in a trace's room as the header's helpers read it, three octets from a place on: by induction over the lines, since the list grows
 -- at its end.
+use Rattle.std.specs.Prelude.{Result, Ok, Err}
 use Prim.Native.Nat.{ℕ, zero, suc, ◌+◌, ◌*◌, ◌≤◌, ◌<◌}
 use mathlib.Core.Bool.{Bool, true, false}
 use mathlib.Core.List.{List, [], ◌∷◌, ◌++◌, append-nil}
@@ -10,8 +11,6 @@ use lib.ListN.{length, drop, get_or-append}
 use lib.Seq.{get_or-append-add}
 use borrow.Author.Tests.{ltb-true, ltb-false, eqb-true, eqb-false}
 use Rattle.frame.specs.Order.{first_of}
-use Rattle.frame.specs.declared.Verdict.TheVariants.{Fine, Refuse}
-use Rattle.frame.specs.declared.Verdict.{Verdict}
 use Rattle.klumdray.proofs.TracerNumbers.{trace-told, trace-counted}
 use Rattle.klumdray.specs.Decoding.{listed_line, number_in, lines_in, ListedAt, ListReads}
 use Rattle.klumdray.specs.Traces.{trace_through_tests, TracedThrough}
@@ -25,6 +24,7 @@ use Rattle.tracer.specs.Query.{on_arrival}
 use Rattle.tracer.specs.Listing.{crossing_passes, is_listed, entry, each_below, count_below, listed, lines_listed}
 use Rattle.tracer.specs.declared.Query.{Query}
 use Rattle.tracer.specs.Tracing.{list_by}
+use Rattle.frame.specs.declared.Refusal.{Refusal}
 
 module _ (f : Crossing → Bool) (q : Query) where
   abbrev s : ℕ
@@ -145,8 +145,8 @@ module _ (st : Stores) (site : List ℕ) (q : Query) {room : List ℕ} {answer :
   unfolding listed lines_listed
   trace-list z = go (first_of (trace_through_tests st site q (length room))) refl
     where
-      go : (v : Verdict) → first_of (trace_through_tests st site q (length room)) ≡ v → ListReads (crossing_passes st site q) q answer room'
-      go Fine e =
-          let r : room' ≡ over (listed st site q) room = w.left ∙ ap (λ (v : Verdict). over (list_by st site q v) room) e in
+      go : (v : Result (Unit {0}) Refusal) → first_of (trace_through_tests st site q (length room)) ≡ v → ListReads (crossing_passes st site q) q answer room'
+      go (Ok _) e =
+          let r : room' ≡ over (listed st site q) room = w.left ∙ ap (λ (v : Result (Unit {0}) Refusal). over (list_by st site q v) room) e in
           rw r (list-is (crossing_passes st site q) q answer (drop (length (listed st site q)) room) (trace-counted st site q w e).0)
-      go (Refuse r) e = absurd ((trace-told st site q w).accepted.0 z r e)
+      go (Err r) e = absurd ((trace-told st site q w).accepted.0 z r e)

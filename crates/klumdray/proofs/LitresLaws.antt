@@ -1,4 +1,5 @@
 -- The lent blocks of a total and of a station: what the calls inside leave, laid over the blocks, is what the surface says.
+use Rattle.std.specs.Prelude.{Result, Ok, Err}
 use Prim.Native.Nat.{ℕ, ◌%◌, ◌≤◌, ◌<◌}
 use mathlib.Core.Bool.{Bool, true, false, cond, ◌&&◌}
 use mathlib.Core.List.{List, [], ◌++◌}
@@ -16,24 +17,22 @@ use Rattle.octets.specs.Octets.{Octets}
 use Rattle.octets.specs.Room.{laid}
 use Rattle.frame.specs.declared.Refusal.TheVariants.{OutOfRange}
 use Rattle.tp1.specs.Reading.{read_tp1}
-use Rattle.tp1.specs.declared.Tp1Answer.{Tp1Answer}
-use Rattle.tp1.specs.declared.Tp1Answer.TheVariants.{Frame, Refused as Unread}
 use Rattle.coupler.proofs.StepLaws.{tp1-most}
 use Rattle.coupler.proofs.Promised.{recalls}
 use Rattle.coupler.specs.Memory.{recalled, remembering}
 use Rattle.coupler.specs.declared.Remembered.{Remembered}
 use Rattle.leak.specs.Total.{add_to}
-use Rattle.leak.specs.declared.Added.{Added}
-use Rattle.leak.specs.declared.Added.TheVariants.{Sum, Refused as Unadded}
 use Rattle.station.specs.Taking.{telegram_in, telegram_for, counted_by, taken_by}
 use Rattle.station.specs.declared.Telegram.{Telegram}
-use Rattle.station.specs.declared.Telegram.TheVariants.{Increment, Repetition, OtherGroup, NoIncrement, Refused}
+use Rattle.station.specs.declared.Telegram.TheVariants.{Increment, Repetition, OtherGroup, NoIncrement}
 use Rattle.station.specs.declared.Tally.{Tally}
 use Rattle.klumdray.specs.Block.{remembered_in, half_of}
 use Rattle.klumdray.specs.Litres.{is_total, total_in, total_octets, added_number, block_added, added_through, AddedThrough, telegram_number, memory_taken, total_taken, is_lent, taken_through, TookFrame}
 use Rattle.klumdray.specs.Stages.{kept_in, remembered_at, sum_laid, taken_laid, is_accepted}
 use Rattle.klumdray.proofs.BlockLaws.{half-remembered, half-recalled}
 use Rattle.klumdray.proofs.Remembered.{half-read, octets-263}
+use Rattle.frame.specs.declared.Refusal.{Refusal}
+use Rattle.frame.specs.declared.Meaning.{Meaning}
 
 -- a total fills its block
 whole : (z : ℤ) (block : List ℕ) → length block ≡ 8 → laid (total_octets z) 0 block ≡ total_octets z
@@ -42,16 +41,16 @@ whole z block n =
     let none : drop 8 block ≡ [] = subst (λ (k : ℕ). drop k block ≡ []) n (drop-length block) in
     laid-front (total_octets z) block (omega (arith, n)) ∙ ap (λ (l : List ℕ). total_octets z ++ l) none ∙ append-nil (total_octets z)
 
-sum_laid-is_block : (a : Added) (block : List ℕ) → length block ≡ 8 → sum_laid a block ≡ block_added a block
-sum_laid-is_block (Sum s) block n = whole s block n
-sum_laid-is_block (Unadded r) block n = refl
+sum_laid-is_block : (a : Result ℤ Refusal) (block : List ℕ) → length block ≡ 8 → sum_laid a block ≡ block_added a block
+sum_laid-is_block (Ok s) block n = whole s block n
+sum_laid-is_block (Err r) block n = refl
 
 -- adding, of a block and a code that fit, and of those that do not
 inside-adds : (block : List ℕ) (code : ℕ) → is_total block && ltb code 65536 ≡ true → added_through block code ≡ add_to (total_in block) code
 unfolding added_through
 inside-adds block code right = rw right
 
-pub added-fit : (block : List ℕ) (code : ℕ) {block' : List ℕ} {a : Added} {t : ℤ} {c answer : ℕ} → is_total block && ltb code 65536 ≡ true
+pub added-fit : (block : List ℕ) (code : ℕ) {block' : List ℕ} {a : Result ℤ Refusal} {t : ℤ} {c answer : ℕ} → is_total block && ltb code 65536 ≡ true
     → t ≡ total_in block → c ≡ code % 65536 → a ≡ add_to t c → block' ≡ sum_laid a block → answer ≡ added_number a
     → AddedThrough block code answer block'
 added-fit block code {a = a} {c = c} right et ec ea eb en =
@@ -61,44 +60,44 @@ added-fit block code {a = a} {c = c} right et ec ea eb en =
     let e : a ≡ added_through block code = ea ∙ ap (λ (z : ℤ). add_to z c) et ∙ ap (add_to (total_in block)) (ec ∙ same) ∙ sym (inside-adds block code right) in
     record {
       answers = en ∙ ap added_number e;
-      counted = eb ∙ sum_laid-is_block a block (eqb-true (length block) 8 fits.0) ∙ ap (λ (x : Added). block_added x block) e;
+      counted = eb ∙ sum_laid-is_block a block (eqb-true (length block) 8 fits.0) ∙ ap (λ (x : Result ℤ Refusal). block_added x block) e;
     }
 
-inside-adds-not : (block : List ℕ) (code : ℕ) → is_total block && ltb code 65536 ≡ false → added_through block code ≡ Unadded OutOfRange
+inside-adds-not : (block : List ℕ) (code : ℕ) → is_total block && ltb code 65536 ≡ false → added_through block code ≡ Err OutOfRange
 unfolding added_through
 inside-adds-not block code wrong = rw wrong
 
 pub added-unfit : (block : List ℕ) (code : ℕ) → is_total block && ltb code 65536 ≡ false → AddedThrough block code 14 block
 added-unfit block code wrong =
     let e = sym (inside-adds-not block code wrong) in
-    record { answers = ap added_number e; counted = ap (λ (x : Added). block_added x block) e }
+    record { answers = ap added_number e; counted = ap (λ (x : Result ℤ Refusal). block_added x block) e }
 
 -- taking
 
-taken-laid : (z : ℤ) (t : Telegram) (block : List ℕ) → length block ≡ 8 → taken_laid z t block ≡ total_taken z t block
-taken-laid z (Increment code) block n = whole z block n
-taken-laid z Repetition block n = refl
-taken-laid z OtherGroup block n = refl
-taken-laid z NoIncrement block n = refl
-taken-laid z (Refused r) block n = refl
+taken-laid : (z : ℤ) (t : Result Telegram Refusal) (block : List ℕ) → length block ≡ 8 → taken_laid z t block ≡ total_taken z t block
+taken-laid z (Ok (Increment code)) block n = whole z block n
+taken-laid z (Ok Repetition) block n = refl
+taken-laid z (Ok OtherGroup) block n = refl
+taken-laid z (Ok NoIncrement) block n = refl
+taken-laid z (Err r) block n = refl
 
 -- a frame of the reader's fits the memory
-frame-kept : (t : Telegram) (block s : List ℕ) → length block ≡ 265 → length s ≤ 263 → cond (is_accepted t) (remembered_at 0 s block) block ≡ memory_taken t block s
-frame-kept (Increment code) block s n k = half-remembered block s n k
-frame-kept Repetition block s n k = half-remembered block s n k
-frame-kept OtherGroup block s n k = half-remembered block s n k
-frame-kept NoIncrement block s n k = half-remembered block s n k
-frame-kept (Refused r) block s n k = refl
+frame-kept : (t : Result Telegram Refusal) (block s : List ℕ) → length block ≡ 265 → length s ≤ 263 → cond (is_accepted t) (remembered_at 0 s block) block ≡ memory_taken t block s
+frame-kept (Ok (Increment code)) block s n k = half-remembered block s n k
+frame-kept (Ok Repetition) block s n k = half-remembered block s n k
+frame-kept (Ok OtherGroup) block s n k = half-remembered block s n k
+frame-kept (Ok NoIncrement) block s n k = half-remembered block s n k
+frame-kept (Err r) block s n k = refl
 
 kept-as : (total : ℤ) (group : ℕ) (remembered block s : List ℕ) → length block ≡ 265 → Octets s
     → cond (is_accepted (taken_by total group remembered s).telegram) (remembered_at 0 s block) block ≡ memory_taken (taken_by total group remembered s).telegram block s
 unfolding taken_by telegram_in
 kept-as total group remembered block s n o = go (read_tp1 s) refl
   where
-    go : (a : Tp1Answer) → read_tp1 s ≡ a
+    go : (a : Result Meaning Refusal) → read_tp1 s ≡ a
         → cond (is_accepted (counted_by total (telegram_for group remembered s a)).telegram) (remembered_at 0 s block) block ≡ memory_taken (counted_by total (telegram_for group remembered s a)).telegram block s
-    go (Frame m) e = frame-kept (counted_by total (telegram_for group remembered s (Frame m))).telegram block s n (tp1-most s m o e)
-    go (Unread r) e = refl
+    go (Ok m) e = frame-kept (counted_by total (telegram_for group remembered s (Ok m))).telegram block s n (tp1-most s m o e)
+    go (Err r) e = refl
 
 module _ (total memory : List ℕ) (group : ℕ) (s : List ℕ) where
   pub lent_fits : is_lent total memory group ≡ true → (length total ≡ 8) × ((length memory ≡ 265) × (group < 65536))
@@ -111,7 +110,7 @@ module _ (total memory : List ℕ) (group : ℕ) (s : List ℕ) where
   unfolding taken_through
   inside-takes right = rw right
 
-  pub inside-not : is_lent total memory group ≡ false → taken_through total memory group s ≡ record { telegram = Refused OutOfRange; total = total_in total }
+  pub inside-not : is_lent total memory group ≡ false → taken_through total memory group s ≡ record { telegram = Err OutOfRange; total = total_in total }
   unfolding taken_through
   inside-not wrong = rw wrong
 
@@ -151,9 +150,9 @@ accepted-size : (total : ℤ) (group : ℕ) (remembered s : List ℕ) → Octets
 unfolding taken_by telegram_in
 accepted-size total group remembered s o = go (read_tp1 s) refl
   where
-    go : (a : Tp1Answer) → read_tp1 s ≡ a → is_accepted (counted_by total (telegram_for group remembered s a)).telegram ≡ true → length s ≤ 263
-    go (Frame m) e x = tp1-most s m o e
-    go (Unread r) e x = never (sym x)
+    go : (a : Result Meaning Refusal) → read_tp1 s ≡ a → is_accepted (counted_by total (telegram_for group remembered s a)).telegram ≡ true → length s ≤ 263
+    go (Ok m) e x = tp1-most s m o e
+    go (Err r) e x = never (sym x)
 
 -- and is the remembered frame then
 kept-recalled : (memory s : List ℕ) → length memory ≡ 265 → length s ≤ 263 → recalled (remembered_in (half_of (remembering (remembered_in memory) s))) ≡ s
@@ -176,12 +175,12 @@ taken-remembered total memory group s {memory' = memory'} o w a =
     ap (λ (l : List ℕ). recalled (remembered_in l)) (w.remembered ∙ held (taken_through total memory group s).telegram a) ∙ kept-recalled memory s n k)
     (λ wrong. never (sym (subst (λ (x : Tally). is_accepted x.telegram ≡ true) (inside-not total memory group s wrong) a)))
   where
-    held : (t : Telegram) → is_accepted t ≡ true → memory_taken t memory s ≡ half_of (remembering (remembered_in memory) s)
-    held (Increment code) e = refl
-    held Repetition e = refl
-    held OtherGroup e = refl
-    held NoIncrement e = refl
-    held (Refused r) e = never (sym e)
+    held : (t : Result Telegram Refusal) → is_accepted t ≡ true → memory_taken t memory s ≡ half_of (remembering (remembered_in memory) s)
+    held (Ok (Increment code)) e = refl
+    held (Ok Repetition) e = refl
+    held (Ok OtherGroup) e = refl
+    held (Ok NoIncrement) e = refl
+    held (Err r) e = never (sym e)
 
 -- two outcomes that a contract allows coincide
 pub added-through-one : {block : List ℕ} {code r₁ r₂ : ℕ} {b₁ b₂ : List ℕ} → AddedThrough block code r₁ b₁ → AddedThrough block code r₂ b₂ → (r₁ ≡ r₂) × (b₁ ≡ b₂)

@@ -1,5 +1,6 @@
 -- A reader's number is its fields one above the other, and none overflows: so each helper reads back what was put in. The definition cuts
 -- priority, count and the payload's length off (`% 4`, `% 8`, `% 256`); of what is accepted nothing is lost.
+use Rattle.std.specs.Prelude.{Result, Ok, Err}
 use Prim.Native.Nat.{ℕ, ◌^◌, ◌≤◌, ◌<◌}
 use mathlib.Core.Bool.{Bool, true, false, cond, ◌||◌}
 use mathlib.Core.List.{List, [], ◌∷◌}
@@ -8,12 +9,11 @@ use native.Mathlib.Omega.{arith}
 use lib.Dec.{eqb}
 use lib.ListN.{length, drop, get_or}
 use borrow.Author.Tests.{eqb-true}
-use Rattle.cemi.proofs.Apart.{frame_refused as message-refused, refused-one as message-not-one}
+use Rattle.frame.proofs.Apart.{err-ok, err-one}
 use Rattle.cemi.proofs.LayoutLaws.{message-ranges}
 use Rattle.cemi.specs.Answers.{cemi_numbered}
 use Rattle.cemi.specs.Codes.{is_read}
 use Rattle.cemi.specs.Valid.{ValidMessage}
-use Rattle.cemi.specs.declared.CemiAnswer.{CemiAnswer}
 use Rattle.cemi.specs.declared.Codes.{Codes}
 use Rattle.cemi.specs.declared.Codes.TheVariants.{All, IndicationOnly}
 use Rattle.cemi.specs.declared.Message.{Message}
@@ -33,14 +33,10 @@ use Rattle.octets.proofs.Truth.{by_cases, never}
 use Rattle.octets.specs.Octets.{Octets, weigh}
 use Rattle.routing.proofs.RoundTrip.{read-datagram}
 use Rattle.routing.specs.Reading.{read_routing, routed_payload}
-use Rattle.tp1.proofs.Apart.{frame_refused, refused-one}
 use Rattle.tp1.specs.Answers.{tp1_numbered}
 use Rattle.tp1.specs.Reading.{read_tp1, payload_in}
-use Rattle.tp1.specs.declared.Tp1Answer.{Tp1Answer}
-use Rattle.tp1.specs.declared.Tp1Answer.TheVariants.{Frame, Refused}
 use Rattle.cemi.proofs.RoundTrip.{read-laid as cemi-laid}
 use Rattle.cemi.specs.Reading.{read_cemi, payload_in as cemi_payload}
-use Rattle.cemi.specs.declared.CemiAnswer.TheVariants.{Frame as Message-is, Refused as Message-not}
 use Rattle.tp1.proofs.RoundTrip.{read-laid as tp1-laid}
 
 reader_fields : Meaning → ℕ → List Field → List Field
@@ -97,23 +93,23 @@ module _ (m : Meaning) (p : List ℕ) (v : Valid m p) where
   meaning-reads : Reads m (length p) (meaning_number m (length p))
   meaning-reads = reads [] (meaning_number m (length p)) tt meaning-packed
 
-tp1-answer : (a : Tp1Answer) (p : List ℕ) → ((m : Meaning) → a ≡ Frame m → Valid m p) → ((r : Refusal) → a ≡ Refused r → p ≡ [])
-    → TellsReading 56 tp1_from (tp1_number a (length p)) (tp1_numbered a) (λ r. a ≡ Refused r) p
-tp1-answer (Frame m) p v none =
+tp1-answer : (a : Result Meaning Refusal) (p : List ℕ) → ((m : Meaning) → a ≡ Ok m → Valid m p) → ((r : Refusal) → a ≡ Err r → p ≡ [])
+    → TellsReading 56 tp1_from (tp1_number a (length p)) (tp1_numbered a) (λ r. a ≡ Err r) p
+tp1-answer (Ok m) p v none =
     let x = meaning-reads m p (v m refl) in
     record {
-      told = tells-accepted x.number (λ r e. frame_refused (sym e)) (meaning-fits m p (v m refl)) (rw (x.number, x.values));
+      told = tells-accepted x.number (λ r e. err-ok (sym e)) (meaning-fits m p (v m refl)) (rw (x.number, x.values));
       size = x.payload;
       some = λ z. rw x.payload (ranges m p (v m refl)).some;
     }
-tp1-answer (Refused q) p v none = record {
-  told = tells-refused q refl refl (λ r. refused-one) (omega arith) (rw (number-alone q, refused-number q));
+tp1-answer (Err q) p v none = record {
+  told = tells-refused q refl refl (λ r. err-one) (omega arith) (rw (number-alone q, refused-number q));
   size = rw (none q refl) (omega (arith, (number-listed q).1));
   some = λ z. absurd (number-some q (sym (number-alone q) ∙ z));
 }
 
 module _ (s : List ℕ) (o : Octets s) where
-  pub tp1-tells : TellsReading 56 tp1_from (tp1_answered s) (tp1_numbered (read_tp1 s)) (λ r. read_tp1 s ≡ Refused r) (payload_in (read_tp1 s) s)
+  pub tp1-tells : TellsReading 56 tp1_from (tp1_answered s) (tp1_numbered (read_tp1 s)) (λ r. read_tp1 s ≡ Err r) (payload_in (read_tp1 s) s)
   tp1-tells = tp1-answer (read_tp1 s) (payload_in (read_tp1 s) s) (λ m e. rw e (tp1-laid s m o e).valid) (λ r e. rw e)
 
 -- for cEMI also message code and error mark
@@ -183,26 +179,26 @@ module _ (codes : Codes) (x : Message) (p : List ℕ) (v : ValidMessage codes x 
   unfolding fields rest reader_fields
   mark-read = read_back fields (message_number x (length p)) fit message-packed 10 (omega arith)
 
-pub cemi-answer : (codes : Codes) (a : CemiAnswer) (p : List ℕ) → ((x : Message) → a ≡ Message-is x → ValidMessage codes x p) → ((r : Refusal) → a ≡ Message-not r → p ≡ [])
-    → TellsReading 59 cemi_from (cemi_number a (length p)) (cemi_numbered a) (λ r. a ≡ Message-not r) p
-cemi-answer codes (Message-is x) p v none =
+pub cemi-answer : (codes : Codes) (a : Result Message Refusal) (p : List ℕ) → ((x : Message) → a ≡ Ok x → ValidMessage codes x p) → ((r : Refusal) → a ≡ Err r → p ≡ [])
+    → TellsReading 59 cemi_from (cemi_number a (length p)) (cemi_numbered a) (λ r. a ≡ Err r) p
+cemi-answer codes (Ok x) p v none =
     let ok = v x refl in
     let w = message-reads codes x p ok in
     record {
-      told = tells-accepted w.number (λ r e. message-refused (sym e)) (message-fits codes x p ok) (rw (w.number, code_read codes x p ok, mark-read codes x p ok, w.values));
+      told = tells-accepted w.number (λ r e. err-ok (sym e)) (message-fits codes x p ok) (rw (w.number, code_read codes x p ok, mark-read codes x p ok, w.values));
       size = w.payload;
       some = λ z. rw w.payload (ranges x.meaning p ok.valid).some;
     }
-cemi-answer codes (Message-not q) p v none = record {
-  told = tells-refused q refl refl (λ r. message-not-one) (omega arith) (rw (number-alone q, refused-number q));
+cemi-answer codes (Err q) p v none = record {
+  told = tells-refused q refl refl (λ r. err-one) (omega arith) (rw (number-alone q, refused-number q));
   size = rw (none q refl) (omega (arith, (number-listed q).1));
   some = λ z. absurd (number-some q (sym (number-alone q) ∙ z));
 }
 
 module _ (s : List ℕ) (o : Octets s) where
-  pub cemi-tells : TellsReading 59 cemi_from (cemi_answered s) (cemi_numbered (read_cemi All s)) (λ r. read_cemi All s ≡ Message-not r) (cemi_payload (read_cemi All s) s)
+  pub cemi-tells : TellsReading 59 cemi_from (cemi_answered s) (cemi_numbered (read_cemi All s)) (λ r. read_cemi All s ≡ Err r) (cemi_payload (read_cemi All s) s)
   cemi-tells = cemi-answer All (read_cemi All s) (cemi_payload (read_cemi All s) s) (λ x e. rw e (cemi-laid All s x o e).valid) (λ r e. rw e)
 
-  pub routing-tells : TellsReading 59 cemi_from (routing_answered s) (cemi_numbered (read_routing s)) (λ r. read_routing s ≡ Message-not r) (routed_payload (read_routing s) s)
+  pub routing-tells : TellsReading 59 cemi_from (routing_answered s) (cemi_numbered (read_routing s)) (λ r. read_routing s ≡ Err r) (routed_payload (read_routing s) s)
   routing-tells =
       cemi-answer IndicationOnly (read_routing s) (routed_payload (read_routing s) s) (λ x e. rw e (cemi-laid IndicationOnly (drop 6 s) x (octets-drop 6 s o) (read-datagram s x o e).1).valid) (λ r e. rw e)

@@ -1,6 +1,7 @@
 -- The block as the header's helpers read it: what a side remembers. A step is the step inside, of the memory that the block holds: a memory put
 -- into a block is read out of it again. After an accepted TP1 frame a side remembers the frame; and a refused step leaves block and room as
 -- they were.
+use Rattle.std.specs.Prelude.{Result, Ok, Err}
 use Prim.Native.Nat.{ℕ, ◌+◌, ◌%◌, ◌≤◌, ◌<◌}
 use mathlib.Core.Bool.{Bool, true, false, cond, ◌&&◌}
 use mathlib.Core.List.{List, [], ◌∷◌}
@@ -39,8 +40,6 @@ use Rattle.octets.specs.Word.{word_at, high, low}
 use Rattle.tp1.proofs.LayoutLaws.{head-least, length-octets}
 use Rattle.tp1.proofs.RoundTrip.{read-laid}
 use Rattle.tp1.specs.Reading.{read_tp1, payload_in}
-use Rattle.tp1.specs.declared.Tp1Answer.{Tp1Answer}
-use Rattle.tp1.specs.declared.Tp1Answer.TheVariants.{Frame, Refused}
 
 -- a side's half begins where the contract has it
 same-part : (side : ℕ) → side < 2 → remembered_part side ≡ start_of side
@@ -154,12 +153,12 @@ outcome-read o n e =
 heard-least : (s : List ℕ) (m : Meaning) (p : List ℕ) → Octets s → heard_tp1 (read_tp1 s) s ≡ frame m p → 8 ≤ length s
 heard-least s m p o = go (read_tp1 s) refl
   where
-    go : (a : Tp1Answer) → read_tp1 s ≡ a → heard_tp1 a s ≡ frame m p → 8 ≤ length s
-    go (Frame x) q z =
+    go : (a : Result Meaning Refusal) → read_tp1 s ≡ a → heard_tp1 a s ≡ frame m p → 8 ≤ length s
+    go (Ok x) q z =
         let w = read-laid s x o q in
-        let l : List ℕ = payload_in (Frame x) s in
+        let l : List ℕ = payload_in (Ok x) s in
         omega (arith, ap length w.layout ∙ length-octets x l, head-least x.extended, (ranges-of x (length l) w.valid.ranges).some)
-    go (Refused r) q z = frame-nothing z
+    go (Err r) q z = frame-nothing z
 
 module _ {right : Bool} {k : Coupler} {block s room : List ℕ} {answer : ℕ} {block' room' : List ℕ}
     (lent : right ≡ true → length block ≡ 530) (os : Octets s) (w : SteppedThrough right k block s room answer block' room') where

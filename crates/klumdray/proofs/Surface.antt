@@ -1,4 +1,5 @@
 -- A call of the surface is the inner call behind a test whether the numbers fit: of the writers said once for every format.
+use Rattle.std.specs.Prelude.{Result, Ok, Err, Option}
 use Prim.Native.Nat.{ℕ, ◌%◌, ◌^◌, ◌≤◌, ◌<◌}
 use mathlib.Core.Bool.{Bool, true, false, cond, ◌&&◌}
 use mathlib.Core.List.{List}
@@ -13,8 +14,6 @@ use Rattle.frame.specs.Order.{first_of}
 use Rattle.frame.specs.Writing.{written, room_after, Wrote}
 use Rattle.frame.specs.declared.Meaning.{Meaning}
 use Rattle.frame.specs.declared.Refusal.TheVariants.{OutOfRange}
-use Rattle.frame.specs.declared.Verdict.{Verdict}
-use Rattle.frame.specs.declared.Written.{Written}
 use Rattle.klumdray.specs.Numbers.{flags_of, meaning_number, code_number, are_flags, are_octets, are_words, are_numbers, are_marks, are_connected, meaning_from, message_from, acknowledgement_from, written_number, WroteNumber}
 use Rattle.klumdray.specs.Stages.{Sized}
 use Rattle.klumdray.specs.Traces.{traced_number, explanation_number, query_fits, trace_through_tests, TracedThrough, why_through}
@@ -25,33 +24,33 @@ use Rattle.site.specs.Stores.{Stores}
 use Rattle.tracer.specs.Query.{query_of}
 use Rattle.tracer.specs.Tracing.{trace_tests, traced_by, list_by, DidTrace}
 use Rattle.tracer.specs.Why.{answer_why}
-use Rattle.tracer.specs.declared.Explanation.{Explanation}
 use Rattle.tracer.specs.declared.Traced.{Traced}
 use Rattle.tracer.specs.declared.Query.{Query}
 use Rattle.tunnelling.specs.declared.Acknowledgement.{Acknowledgement}
-use Rattle.frame.specs.declared.Written.TheVariants.{Put, Refused as Unwritten}
+use Rattle.frame.specs.declared.Refusal.{Refusal}
+use Rattle.tracer.specs.declared.Stop.{Stop}
 
 -- a size that is written has a number
-pub sized : {ranged : Bool} {octets room after : List ℕ} (w : Written) → Wrote ranged octets room w after → (ranged ≡ true → length octets ≤ 274) → Sized w
-sized {ranged} {octets} {room} (Put n) x h =
+pub sized : {ranged : Bool} {octets room after : List ℕ} (w : Result ℕ Refusal) → Wrote ranged octets room w after → (ranged ≡ true → length octets ≤ 274) → Sized w
+sized {ranged} {octets} {room} (Ok n) x h =
     let e = (put-iff ranged octets room n).0 (sym x.answered) in
     omega (arith, h e.0)
-sized (Unwritten r) x h = tt
+sized (Err r) x h = tt
 
-pub wrote-number : {fit ranged : Bool} {octets room after : List ℕ} {r : ℕ} (w : Written)
+pub wrote-number : {fit ranged : Bool} {octets room after : List ℕ} {r : ℕ} (w : Result ℕ Refusal)
     → fit ≡ true → Wrote ranged octets room w after → r ≡ written_number w → WroteNumber (fit && ranged) octets room r after
 wrote-number {fit} {ranged} {octets} {room} w f x e =
     let a : w ≡ written (fit && ranged) octets room = rw f x.answered in
-    record { answered = e ∙ ap written_number a; left = x.left ∙ ap (λ (v : Written). room_after v octets room) a }
+    record { answered = e ∙ ap written_number a; left = x.left ∙ ap (λ (v : Result ℕ Refusal). room_after v octets room) a }
 
 pub unfit-refused : (fit ranged : Bool) (octets room : List ℕ) → fit ≡ false → WroteNumber (fit && ranged) octets room 14 room
 unfit-refused fit ranged octets room f =
-    let a : written (fit && ranged) octets room ≡ Unwritten OutOfRange = (unranged-iff (fit && ranged) octets room).1 (rw f) in
-    record { answered = sym (ap written_number a); left = sym (ap (λ (v : Written). room_after v octets room) a) }
+    let a : written (fit && ranged) octets room ≡ Err OutOfRange = (unranged-iff (fit && ranged) octets room).1 (rw f) in
+    record { answered = sym (ap written_number a); left = sym (ap (λ (v : Result ℕ Refusal). room_after v octets room) a) }
 
 -- a writer that has no range but that the numbers fit
 
-pub wrote-fit : {fit : Bool} {octets room after : List ℕ} {r : ℕ} (w : Written) → fit ≡ true → Wrote true octets room w after → r ≡ written_number w → WroteNumber fit octets room r after
+pub wrote-fit : {fit : Bool} {octets room after : List ℕ} {r : ℕ} (w : Result ℕ Refusal) → fit ≡ true → Wrote true octets room w after → r ≡ written_number w → WroteNumber fit octets room r after
 wrote-fit {fit} {octets} {room} {after} {r} w f x e = subst (λ (b : Bool). WroteNumber b octets room r after) (and_yes fit) (wrote-number w f x e)
 
 pub unfit-alone : (fit : Bool) (octets room : List ℕ) → fit ≡ false → WroteNumber fit octets room 14 room
@@ -134,15 +133,15 @@ pub traced_fit : (st : Stores) (site : List ℕ) (q : Query) {room : List ℕ} {
 traced_fit st site q {room} f x e =
     let v = trace-inside st site q (length room) f in
     record {
-      answered = e ∙ ap traced_number x.answered ∙ ap (λ (v : Verdict). traced_number (traced_by st site q v)) v;
-      left = x.left ∙ ap (λ (v : Verdict). over (list_by st site q v) room) v;
+      answered = e ∙ ap traced_number x.answered ∙ ap (λ (v : Result (Unit {0}) Refusal). traced_number (traced_by st site q v)) v;
+      left = x.left ∙ ap (λ (v : Result (Unit {0}) Refusal). over (list_by st site q v) room) v;
     }
 
 pub traced-unfit : (st : Stores) (site : List ℕ) (q : Query) (room : List ℕ) → query_fits q ≡ false → TracedThrough st site q room 14 room
 unfolding traced_number
 traced-unfit st site q room f = record { answered = rw f refl; left = rw f refl }
 
-pub why-fit : (st : Stores) (site : List ℕ) (q : Query) (line : ℕ) {answer : ℕ} {a : Explanation} → query_fits q && ltb line 256 ≡ true
+pub why-fit : (st : Stores) (site : List ℕ) (q : Query) (line : ℕ) {answer : ℕ} {a : Result (Option Stop) Refusal} → query_fits q && ltb line 256 ≡ true
     → a ≡ answer_why st site q line → answer ≡ explanation_number a → answer ≡ explanation_number (why_through st site q line)
 why-fit st site q line f e h = h ∙ ap explanation_number (e ∙ why-inside st site q line f)
 

@@ -1,5 +1,6 @@
 -- The tracer's numbers: at most 256 lines and 255 forwardings, so that nothing is cut off; and what stops a telegram is a crossing of the
 -- path, whose line and direction are below 256 and 2.
+use Rattle.std.specs.Prelude.{Result, Ok, Err, Option, Some, None}
 use Prim.Native.Nat.{ℕ, zero, suc, ◌+◌, ◌%◌, ◌^◌, ◌≤◌, ◌<◌}
 use mathlib.Core.Bool.{Bool, true, false, ◌&&◌}
 use mathlib.Core.List.{List, [], ◌∷◌, ◌++◌}
@@ -9,7 +10,7 @@ use native.Mathlib.Omega.{arith}
 use lib.Dec.{ltb, leb, eqb}
 use lib.ListN.{length, get_or}
 use borrow.Author.Tests.{ltb-true, leb-true, eqb-true, eqb-false, not-false}
-use Rattle.frame.proofs.Apart.{fine-refuse, refuse-one}
+use Rattle.frame.proofs.Apart.{err-one, ok-err}
 use Rattle.octets.proofs.Truth.{by_cases, and-true}
 use Rattle.passing.proofs.Answers.{passage-zero, passage-most}
 use Rattle.passing.specs.Answers.{passage_number}
@@ -18,8 +19,6 @@ use Rattle.frame.proofs.Numbers.{number-listed, refused-number}
 use Rattle.frame.proofs.Order.{passed-iff}
 use Rattle.frame.specs.Answers.{Numbered}
 use Rattle.frame.specs.Order.{first_of, answer_by}
-use Rattle.frame.specs.declared.Verdict.TheVariants.{Fine, Refuse}
-use Rattle.frame.specs.declared.Verdict.{Verdict}
 use Rattle.frame.specs.Refusals.{number, last_number}
 use Rattle.klumdray.proofs.Bits.{Field, ◌holding◌, packed, Fit, read_back, below}
 use Rattle.klumdray.proofs.Telling.{number-alone, tells-refused, tells-accepted}
@@ -38,10 +37,9 @@ use Rattle.tracer.specs.declared.Query.{Query}
 use Rattle.tracer.specs.Query.{is_query}
 use Rattle.tracer.specs.Tracing.{traced_by, list_by}
 use Rattle.tracer.specs.Why.{why_of}
-use Rattle.tracer.specs.declared.Explanation.{Explanation}
-use Rattle.tracer.specs.declared.Explanation.TheVariants.{Reached, NotReached, Refused}
 use Rattle.tracer.specs.declared.Stop.{Stop}
 use Rattle.tracer.specs.declared.Traced.{Traced}
+use Rattle.frame.specs.declared.Refusal.{Refusal}
 
 count-some : (f : ℕ → Bool) (n s : ℕ) → s < n → f s ≡ true → 1 ≤ count_below f n
 count-some f zero s h e = absurd (omega arith)
@@ -104,44 +102,44 @@ start_fits q e =
     ltb-true q.start 256 (and-true (ltb q.start 256) (ltb q.kind 256) two.0).0
 
 module _ (st : Stores) (site : List ℕ) (q : Query) where
-  traced-answer : (v : Verdict) → Tells 40 traced_from (traced_number (traced_by st site q v)) (traced_numbered (traced_by st site q v)) (λ r. v ≡ Refuse r)
+  traced-answer : (v : Result (Unit {0}) Refusal) → Tells 40 traced_from (traced_number (traced_by st site q v)) (traced_numbered (traced_by st site q v)) (λ r. v ≡ Err r)
   unfolding traced_number
-  traced-answer Fine =
-      let d = traced-decoded (traced_by st site q Fine) (omega arith) (lines-most st site q) (forwardings-most st site q) in
-      tells-accepted (ap (λ (i : Numbered). i.number) d) (λ r. fine-refuse) (traced-fits (traced_by st site q Fine) (omega arith) (lines-most st site q) (forwardings-most st site q)) d
-  traced-answer (Refuse r) =
-      let t : Traced = traced_by st site q (Refuse r) in
+  traced-answer (Ok _) =
+      let d = traced-decoded (traced_by st site q (Ok tt)) (omega arith) (lines-most st site q) (forwardings-most st site q) in
+      tells-accepted (ap (λ (i : Numbered). i.number) d) (λ r. ok-err) (traced-fits (traced_by st site q (Ok tt)) (omega arith) (lines-most st site q) (forwardings-most st site q)) d
+  traced-answer (Err r) =
+      let t : Traced = traced_by st site q (Err r) in
       let e : traced_number t ≡ number r = omega arith in
-      tells-refused r e refl (λ q. refuse-one) (omega arith) (ap traced_from (sym e) ∙ traced-decoded t (number-listed r).1 (omega arith) (omega arith))
+      tells-refused r e refl (λ q. err-one) (omega arith) (ap traced_from (sym e) ∙ traced-decoded t (number-listed r).1 (omega arith) (omega arith))
 
   module _ {room : List ℕ} {answer : ℕ} {room' : List ℕ} (w : TracedThrough st site q room answer room') where
-    pub trace-told : Tells 40 traced_from answer (traced_numbered (traced_by st site q (first_of (trace_through_tests st site q (length room))))) (λ r. first_of (trace_through_tests st site q (length room)) ≡ Refuse r)
+    pub trace-told : Tells 40 traced_from answer (traced_numbered (traced_by st site q (first_of (trace_through_tests st site q (length room))))) (λ r. first_of (trace_through_tests st site q (length room)) ≡ Err r)
     trace-told = rw w.answered (traced-answer (first_of (trace_through_tests st site q (length room))))
 
-    pub trace-counted : first_of (trace_through_tests st site q (length room)) ≡ Fine → (lines_in answer ≡ lines_listed st site q) × (forwardings_in answer ≡ forwardings st site q)
+    pub trace-counted : first_of (trace_through_tests st site q (length room)) ≡ Ok tt → (lines_in answer ≡ lines_listed st site q) × (forwardings_in answer ≡ forwardings st site q)
     trace-counted e =
-        let d : traced_from answer ≡ traced_numbered (traced_by st site q Fine) = trace-told.decoded ∙ ap (λ (v : Verdict). traced_numbered (traced_by st site q v)) e in
+        let d : traced_from answer ≡ traced_numbered (traced_by st site q (Ok tt)) = trace-told.decoded ∙ ap (λ (v : Result (Unit {0}) Refusal). traced_numbered (traced_by st site q v)) e in
         (ap (λ (i : Numbered). get_or i.values 0 0) d, ap (λ (i : Numbered). get_or i.values 1 0) d)
 
     -- "1 to 256", and the forwardings are one less
     pub trace-lines : number_in answer ≡ 0 → (1 ≤ lines_in answer) × ((lines_in answer ≤ 256) × (forwardings_in answer + 1 ≡ lines_in answer))
     trace-lines z = go (first_of (trace_through_tests st site q (length room))) refl
       where
-        go : (v : Verdict) → first_of (trace_through_tests st site q (length room)) ≡ v → (1 ≤ lines_in answer) × ((lines_in answer ≤ 256) × (forwardings_in answer + 1 ≡ lines_in answer))
-        go Fine e =
+        go : (v : Result (Unit {0}) Refusal) → first_of (trace_through_tests st site q (length room)) ≡ v → (1 ≤ lines_in answer) × ((lines_in answer ≤ 256) × (forwardings_in answer + 1 ≡ lines_in answer))
+        go (Ok _) e =
             let n = trace-counted e in
             let h : q.start < 256 = start_fits q (not-false (query_fits q) ((passed-iff (trace_through_tests st site q (length room))).0 e).0) in
             let some : 1 ≤ lines_listed st site q = lines-some st site q h in
             (rw n.0 some, (rw n.0 (lines-most st site q), rw (n.0, n.1, trace-less-one st site q h) (omega arith)))
-        go (Refuse r) e = absurd (trace-told.accepted.0 z r e)
+        go (Err r) e = absurd (trace-told.accepted.0 z r e)
 
     -- refused: the room as it was
     pub trace-leaves : (number_in answer ≡ 0 → ⊥) → room' ≡ room
     trace-leaves n = go (first_of (trace_through_tests st site q (length room))) refl
       where
-        go : (v : Verdict) → first_of (trace_through_tests st site q (length room)) ≡ v → room' ≡ room
-        go Fine e = absurd (n (trace-told.accepted.1 (λ r f. fine-refuse (sym e ∙ f))))
-        go (Refuse r) e = w.left ∙ ap (λ (v : Verdict). over (list_by st site q v) room) e
+        go : (v : Result (Unit {0}) Refusal) → first_of (trace_through_tests st site q (length room)) ≡ v → room' ≡ room
+        go (Ok _) e = absurd (n (trace-told.accepted.1 (λ r f. ok-err (sym e ∙ f))))
+        go (Err r) e = w.left ∙ ap (λ (v : Result (Unit {0}) Refusal). over (list_by st site q v) room) e
 
 -- what stops a telegram: a crossing of the path, between lines below 256
 
@@ -197,10 +195,10 @@ record Stops (stop : Stop) : Type 0 where
   coupler : stop.coupler < 256
   direction : stop.direction < 2
 
-reached-apart : {A : Type 0} (stop : Stop) → Reached ≡ NotReached stop → A
+reached-apart : {A : Type 0} (stop : Stop) → Ok None ≡ Ok (Some stop) → A
 reached-apart stop e = let z : ◌≡◌ {A = ℕ} 0 1 = cc in absurd (omega arith)
 
-stops : (st : Stores) (site : List ℕ) (q : Query) (line : ℕ) (stop : Stop) → q.count ≤ 7 → q.start < 256 → line < 256 → why_of st site q line ≡ NotReached stop → Stops stop
+stops : (st : Stores) (site : List ℕ) (q : Query) (line : ℕ) (stop : Stop) → q.count ≤ 7 → q.start < 256 → line < 256 → why_of st site q line ≡ Ok (Some stop) → Stops stop
 stops st site q line stop c h k e = by_cases (is_listed (crossing_passes st site q) q.start q.count line) listed unlisted
   where
     listed : is_listed (crossing_passes st site q) q.start q.count line ≡ true → Stops stop
@@ -210,7 +208,7 @@ stops st site q line stop c h k e = by_cases (is_listed (crossing_passes st site
     unlisted l =
         let n = not-reached st site q c line l in
         let x = n.1.1 in
-        let same : NotReached stop ≡ NotReached n.0 = sym e ∙ n.1.0 in
+        let same : (Ok (Some stop)) ≡ Ok (Some n.0) = sym e ∙ n.1.0 in
         let is : stop ≡ n.0 = cc in
         let told = is ∙ x.told in
         let w : Small x.here = small-here x.ahead x.behind x.here (subst AllSmall x.place (path-small q.start line h k)) in
@@ -228,43 +226,43 @@ module _ (stop : Stop) (x : Stops stop) where
   unfolding stop_fields
   stop-fit = (omega arith, (omega (arith, leb-true (passage_number stop.reason) 7 (passage-most stop.reason)), (x.coupler, (x.direction, tt))))
 
-  stop-packed : explanation_number (NotReached stop) ≡ packed stop_fields
+  stop-packed : explanation_number (Ok (Some stop)) ≡ packed stop_fields
   unfolding stop_fields
   stop-packed = omega arith
 
-  stop-told : Tells 25 explanation_from (explanation_number (NotReached stop)) (explanation_numbered (NotReached stop)) (λ r. NotReached stop ≡ Refused r)
+  stop-told : Tells 25 explanation_from (explanation_number (Ok (Some stop))) (explanation_numbered (Ok (Some stop))) (λ r. (Ok (Some stop)) ≡ Err r)
   unfolding stop_fields
   stop-told =
-      let field = read_back stop_fields (explanation_number (NotReached stop)) stop-fit stop-packed in
-      tells-accepted (field 0 (omega arith)) (λ r e. let z : ◌≡◌ {A = ℕ} 0 1 = cc in absurd (omega arith)) (below stop_fields (explanation_number (NotReached stop)) stop-fit stop-packed)
+      let field = read_back stop_fields (explanation_number (Ok (Some stop))) stop-fit stop-packed in
+      tells-accepted (field 0 (omega arith)) (λ r e. let z : ◌≡◌ {A = ℕ} 0 1 = cc in absurd (omega arith)) (below stop_fields (explanation_number (Ok (Some stop))) stop-fit stop-packed)
       (rw (field 0 (omega arith), field 1 (omega arith), field 2 (omega arith), field 3 (omega arith), x.reason))
 
-explanation-answer : (a : Explanation) → ((stop : Stop) → a ≡ NotReached stop → Stops stop) → Tells 25 explanation_from (explanation_number a) (explanation_numbered a) (λ r. a ≡ Refused r)
-explanation-answer Reached h = tells-accepted refl (λ r e. let z : ◌≡◌ {A = ℕ} 0 1 = cc in absurd (omega arith)) (omega arith) refl
-explanation-answer (NotReached stop) h = stop-told stop (h stop refl)
-explanation-answer (Refused q) h = tells-refused q refl refl (λ r e. cc) (omega arith) (rw (number-alone q, refused-number q))
+explanation-answer : (a : Result (Option Stop) Refusal) → ((stop : Stop) → a ≡ Ok (Some stop) → Stops stop) → Tells 25 explanation_from (explanation_number a) (explanation_numbered a) (λ r. a ≡ Err r)
+explanation-answer (Ok None) h = tells-accepted refl (λ r e. let z : ◌≡◌ {A = ℕ} 0 1 = cc in absurd (omega arith)) (omega arith) refl
+explanation-answer (Ok (Some stop)) h = stop-told stop (h stop refl)
+explanation-answer (Err q) h = tells-refused q refl refl (λ r e. cc) (omega arith) (rw (number-alone q, refused-number q))
 
-zero-reached : (a : Explanation) → ((stop : Stop) → a ≡ NotReached stop → Stops stop) → explanation_number a ≡ 0 → a ≡ Reached
-zero-reached Reached h e = refl
-zero-reached (NotReached stop) h e = absurd (eqb-false (passage_number stop.reason) 0 (h stop refl).reason (omega arith))
-zero-reached (Refused q) h e = absurd (eqb-false _ _ (refused-number q) e)
+zero-reached : (a : Result (Option Stop) Refusal) → ((stop : Stop) → a ≡ Ok (Some stop) → Stops stop) → explanation_number a ≡ 0 → a ≡ Ok None
+zero-reached (Ok None) h e = refl
+zero-reached (Ok (Some stop)) h e = absurd (eqb-false (passage_number stop.reason) 0 (h stop refl).reason (omega arith))
+zero-reached (Err q) h e = absurd (eqb-false _ _ (refused-number q) e)
 
 module _ (st : Stores) (site : List ℕ) (q : Query) (line : ℕ) where
-  why-stops : (stop : Stop) → why_through st site q line ≡ NotReached stop → Stops stop
+  why-stops : (stop : Stop) → why_through st site q line ≡ Ok (Some stop) → Stops stop
   unfolding why_through
   why-stops stop = go (first_of (why_through_tests st site q line)) refl
     where
-      go : (v : Verdict) → first_of (why_through_tests st site q line) ≡ v → answer_by Refused (why_of st site q line) v ≡ NotReached stop → Stops stop
-      go Fine e w =
+      go : (v : Result (Unit {0}) Refusal) → first_of (why_through_tests st site q line) ≡ v → answer_by Err (why_of st site q line) v ≡ Ok (Some stop) → Stops stop
+      go (Ok _) e w =
           let passed = (passed-iff (why_through_tests st site q line)).0 e in
           let fit = and-true (query_fits q) (ltb line 256) (not-false (query_fits q && ltb line 256) passed.0) in
           let query = and-true (leb q.kind 1) (leb q.count 7) (not-false (is_query q) passed.1.0) in
           stops st site q line stop (leb-true q.count 7 query.1) (start_fits q fit.0) (ltb-true line 256 fit.1) w
-      go (Refuse r) e w = let z : ◌≡◌ {A = ℕ} 0 1 = cc in absurd (omega arith)
+      go (Err r) e w = let z : ◌≡◌ {A = ℕ} 0 1 = cc in absurd (omega arith)
 
-  pub why-told : Tells 25 explanation_from (explanation_number (why_through st site q line)) (explanation_numbered (why_through st site q line)) (λ r. why_through st site q line ≡ Refused r)
+  pub why-told : Tells 25 explanation_from (explanation_number (why_through st site q line)) (explanation_numbered (why_through st site q line)) (λ r. why_through st site q line ≡ Err r)
   why-told = explanation-answer (why_through st site q line) why-stops
 
   -- where the line is reached, and there only, every bit is 0
-  pub why-reached : explanation_number (why_through st site q line) ≡ 0 ↔ (why_through st site q line ≡ Reached)
+  pub why-reached : explanation_number (why_through st site q line) ≡ 0 ↔ (why_through st site q line ≡ Ok None)
   why-reached = (zero-reached (why_through st site q line) why-stops, ap explanation_number)

@@ -1,4 +1,5 @@
 -- The numbers of tunnelling's calls taken apart again: each is what the call inside answers, and nothing is lost.
+use Rattle.std.specs.Prelude.{Result, Ok, Err}
 use Prim.Native.Nat.{ℕ, ◌+◌, ◌≤◌, ◌<◌}
 use mathlib.Core.Bool.{Bool, true, false, not, ◌&&◌}
 use mathlib.Core.List.{List, [], ◌∷◌}
@@ -6,32 +7,28 @@ use mathlib.Core.Path.{◌≡◌, refl, sym, ap, ◌∙◌}
 use native.Mathlib.Omega.{arith}
 use lib.Dec.{eqb}
 use lib.ListN.{length, get_or}
-use Rattle.cemi.proofs.Apart.{frame_refused as message-refused, frame-one as message-one}
+use Rattle.frame.proofs.Apart.{err-ok, err-one, ok-one, results-differ}
 use Rattle.cemi.proofs.RoundTrip.{read-laid as cemi-laid}
 use Rattle.cemi.specs.Answers.{message_values, cemi_numbered}
 use Rattle.cemi.specs.Reading.{payload_in as cemi_payload}
 use Rattle.cemi.specs.Writing.{message_in_range}
 use Rattle.cemi.specs.Valid.{ValidMessage}
-use Rattle.cemi.specs.declared.CemiAnswer.TheVariants.{Frame as Message-is, Refused as Message-not}
 use Rattle.cemi.specs.declared.Codes.TheVariants.{All}
 use Rattle.cemi.specs.declared.Message.{Message}
 use Rattle.channels.specs.Table.{channel_at}
-use Rattle.exchange.proofs.Apart.{delivered-refused, again-refused, delivered-again, refused-one, raised-refused, kept-refused, unconfirmed-one}
+use Rattle.exchange.proofs.Apart.{delivered-again}
 use Rattle.exchange.proofs.Exactly.{Arrives, delivered-iff}
 use Rattle.exchange.specs.Answers.{received_numbered, confirmed_numbered}
 use Rattle.exchange.specs.Receiving.{delivered_message}
-use Rattle.exchange.specs.declared.Confirmed.TheVariants.{Raised, Kept, Refused as Unconfirmed}
+use Rattle.exchange.specs.declared.Confirmed.TheVariants.{Raised, Kept}
 use Rattle.exchange.specs.declared.Confirmed.{Confirmed}
-use Rattle.exchange.specs.declared.Received.TheVariants.{Delivered, Again, Refused}
+use Rattle.exchange.specs.declared.Received.TheVariants.{Delivered, Again}
 use Rattle.exchange.specs.declared.Received.{Received}
-use Rattle.frame.proofs.Apart.{put_refused}
 use Rattle.frame.proofs.Numbers.{number-listed, number-some, refused-number}
 use Rattle.frame.specs.Answers.{Numbered, written_numbered}
 use Rattle.frame.specs.Refusals.{number}
 use Rattle.frame.specs.Writing.{room_after}
 use Rattle.frame.specs.declared.Refusal.{Refusal}
-use Rattle.frame.specs.declared.Written.TheVariants.{Put, Refused as Unwritten}
-use Rattle.frame.specs.declared.Written.{Written}
 use Rattle.klumdray.proofs.Bits.{Field, ◌holding◌, packed, Fit, read_back, below}
 use Rattle.klumdray.proofs.ChannelLaws.{sent-put}
 use Rattle.klumdray.proofs.ReaderNumbers.{code-some, cemi-answer}
@@ -44,7 +41,6 @@ use Rattle.octets.proofs.Octets.{octets-drop}
 use Rattle.octets.proofs.Truth.{by_cases, never}
 use Rattle.octets.specs.Octets.{Octets}
 use Rattle.octets.specs.Room.{over}
-use Rattle.tunnelling.proofs.Apart.{request-differ, acknowledgement-differ}
 use Rattle.tunnelling.proofs.LayoutLaws.{length-request}
 use Rattle.tunnelling.proofs.Refusals.{request-accepted-iff, acknowledgement-accepted-iff}
 use Rattle.tunnelling.proofs.RoundTrip.{read-connected}
@@ -52,11 +48,7 @@ use Rattle.tunnelling.specs.Answers.{request_numbered, acknowledgement_numbered}
 use Rattle.tunnelling.specs.Layout.{request_octets}
 use Rattle.tunnelling.specs.Reading.{channel_in, counter_in, message, read_request, read_acknowledgement, request_in}
 use Rattle.tunnelling.specs.declared.Acknowledgement.{Acknowledgement}
-use Rattle.tunnelling.specs.declared.AcknowledgementAnswer.TheVariants.{Frame as Acknowledged, Refused as Unacknowledged}
-use Rattle.tunnelling.specs.declared.AcknowledgementAnswer.{AcknowledgementAnswer}
 use Rattle.tunnelling.specs.declared.Request.{Request}
-use Rattle.tunnelling.specs.declared.RequestAnswer.TheVariants.{Frame as Request-is, Refused as Request-not}
-use Rattle.tunnelling.specs.declared.RequestAnswer.{RequestAnswer}
 
 -- a request that is told by its message's number; channel and counter are the datagram's own
 record Carries (s : List ℕ) (x : Request) (p : List ℕ) : Type 0 where
@@ -68,11 +60,11 @@ module _ (s : List ℕ) (x : Request) (p : List ℕ) (c : Carries s x p) where
   abbrev told : ℕ
   told = message_number x.message (length p)
 
-  message-told : TellsReading 59 cemi_from told (cemi_numbered (Message-is x.message)) (λ r. Message-is x.message ≡ Message-not r) p
-  message-told = cemi-answer All (Message-is x.message) p (λ y e. rw (← message-one e) c.valid) (λ r e. message-refused (sym e))
+  message-told : TellsReading 59 cemi_from told (cemi_numbered (Ok x.message)) (λ r. Ok x.message ≡ Err r) p
+  message-told = cemi-answer All (Ok x.message) p (λ y e. rw (← ok-one e) c.valid) (λ r e. err-ok (sym e))
 
   none : number_in told ≡ 0
-  none = message-told.told.accepted.1 (λ r e. message-refused (sym e))
+  none = message-told.told.accepted.1 (λ r e. err-ok (sym e))
 
   values : message_code_in told ∷ error_mark_in told ∷ meaning_values_in told ≡ message_values x.message
   values = sym (accepted-values told (message_code_in told ∷ error_mark_in told ∷ meaning_values_in told) none) ∙ ap (λ (i : Numbered). i.values) message-told.told.decoded
@@ -80,14 +72,14 @@ module _ (s : List ℕ) (x : Request) (p : List ℕ) (c : Carries s x p) where
   coded : eqb (code_number_in told) 0 ≡ false
   coded = code-some All x.message p c.valid
 
-  request-decoded : request_from s told ≡ request_numbered (Request-is x)
+  request-decoded : request_from s told ≡ request_numbered (Ok x)
   request-decoded = rw (none, values, c.channel, c.counter)
 
-  delivered-decoded : received_from s told ≡ received_numbered (Delivered x)
+  delivered-decoded : received_from s told ≡ received_numbered (Ok (Delivered x))
   delivered-decoded = rw (none, coded, values, c.channel, c.counter)
 
 -- a request that is read, and its payload
-request-carries : (s : List ℕ) (x : Request) → Octets s → read_request s ≡ Request-is x → Carries s x (cemi_payload (Message-is x.message) (message s))
+request-carries : (s : List ℕ) (x : Request) → Octets s → read_request s ≡ Ok x → Carries s x (cemi_payload (Ok x.message) (message s))
 request-carries s x o e =
     let same : request_in s ≡ x = ((request-accepted-iff s x).0 e).1 in
     record {
@@ -96,18 +88,18 @@ request-carries s x o e =
       counter = ap (λ (y : Request). y.counter) (sym same);
     }
 
-request-answer : (s : List ℕ) (a : RequestAnswer) (p : List ℕ) → ((x : Request) → a ≡ Request-is x → Carries s x p) → ((r : Refusal) → a ≡ Request-not r → p ≡ [])
-    → TellsReading 59 (request_from s) (cemi_number (message_answer a) (length p)) (request_numbered a) (λ r. a ≡ Request-not r) p
-request-answer s (Request-is x) p v n =
+request-answer : (s : List ℕ) (a : Result Request Refusal) (p : List ℕ) → ((x : Request) → a ≡ Ok x → Carries s x p) → ((r : Refusal) → a ≡ Err r → p ≡ [])
+    → TellsReading 59 (request_from s) (cemi_number (message_answer a) (length p)) (request_numbered a) (λ r. a ≡ Err r) p
+request-answer s (Ok x) p v n =
     let c = v x refl in
     let t = message-told s x p c in
     record {
-      told = tells-accepted (none s x p c) (λ r e. request-differ.never_both x r (sym e)) t.told.fits (request-decoded s x p c);
+      told = tells-accepted (none s x p c) (λ r e. results-differ.never_both x r (sym e)) t.told.fits (request-decoded s x p c);
       size = t.size;
       some = t.some;
     }
-request-answer s (Request-not q) p v n = record {
-  told = tells-refused q refl refl (λ r. request-differ.refusal-one q r) (omega arith) (rw (number-alone q, refused-number q));
+request-answer s (Err q) p v n = record {
+  told = tells-refused q refl refl (λ r. results-differ.refusal-one q r) (omega arith) (rw (number-alone q, refused-number q));
   size = rw (n q refl) (omega (arith, (number-listed q).1));
   some = λ z. absurd (number-some q (sym (number-alone q) ∙ z));
 }
@@ -120,68 +112,68 @@ module _ (a : Acknowledgement) (k : a.channel < 256) (n : a.counter < 256) (u : 
   ack-fit : Fit ack_fields
   ack-fit = (omega arith, (k, (n, (u, tt))))
 
-  ack-packed : acknowledged_number (Acknowledged a) ≡ packed ack_fields
+  ack-packed : acknowledged_number (Ok a) ≡ packed ack_fields
   ack-packed = omega arith
 
-  ack-told : Tells 32 acknowledged_from (acknowledged_number (Acknowledged a)) (acknowledgement_numbered (Acknowledged a)) (λ r. Acknowledged a ≡ Unacknowledged r)
+  ack-told : Tells 32 acknowledged_from (acknowledged_number (Ok a)) (acknowledgement_numbered (Ok a)) (λ r. Ok a ≡ Err r)
   ack-told =
-      let field = read_back ack_fields (acknowledged_number (Acknowledged a)) ack-fit ack-packed in
-      let z : number_in (acknowledged_number (Acknowledged a)) ≡ 0 = field 0 (omega arith) in
-      tells-accepted z (λ r e. acknowledgement-differ.never_both a r (sym e)) (below ack_fields (acknowledged_number (Acknowledged a)) ack-fit ack-packed)
+      let field = read_back ack_fields (acknowledged_number (Ok a)) ack-fit ack-packed in
+      let z : number_in (acknowledged_number (Ok a)) ≡ 0 = field 0 (omega arith) in
+      tells-accepted z (λ r e. results-differ.never_both a r (sym e)) (below ack_fields (acknowledged_number (Ok a)) ack-fit ack-packed)
       (rw (z, field 1 (omega arith), field 2 (omega arith), field 3 (omega arith)))
 
-ack-answer : (a : AcknowledgementAnswer) → ((b : Acknowledgement) → a ≡ Acknowledged b → (b.channel < 256) × ((b.counter < 256) × (b.status < 256)))
-    → Tells 32 acknowledged_from (acknowledged_number a) (acknowledgement_numbered a) (λ r. a ≡ Unacknowledged r)
-ack-answer (Acknowledged b) h = let f = h b refl in ack-told b f.0 f.1.0 f.1.1
-ack-answer (Unacknowledged q) h = tells-refused q refl refl (λ r. acknowledgement-differ.refusal-one q r) (omega arith) (rw (number-alone q, refused-number q))
+ack-answer : (a : Result Acknowledgement Refusal) → ((b : Acknowledgement) → a ≡ Ok b → (b.channel < 256) × ((b.counter < 256) × (b.status < 256)))
+    → Tells 32 acknowledged_from (acknowledged_number a) (acknowledgement_numbered a) (λ r. a ≡ Err r)
+ack-answer (Ok b) h = let f = h b refl in ack-told b f.0 f.1.0 f.1.1
+ack-answer (Err q) h = tells-refused q refl refl (λ r. results-differ.refusal-one q r) (omega arith) (rw (number-alone q, refused-number q))
 
 module _ (s : List ℕ) (o : Octets s) where
-  pub request-tells : TellsReading 59 (request_from s) (request_answered s) (request_numbered (read_request s)) (λ r. read_request s ≡ Request-not r) (request_payload (read_request s) s)
+  pub request-tells : TellsReading 59 (request_from s) (request_answered s) (request_numbered (read_request s)) (λ r. read_request s ≡ Err r) (request_payload (read_request s) s)
   request-tells = request-answer s (read_request s) (request_payload (read_request s) s) (λ x e. rw e (request-carries s x o e)) (λ r e. rw e)
 
-  pub acknowledgement-tells : Tells 32 acknowledged_from (acknowledgement_answered s) (acknowledgement_numbered (read_acknowledgement s)) (λ r. read_acknowledgement s ≡ Unacknowledged r)
+  pub acknowledgement-tells : Tells 32 acknowledged_from (acknowledgement_answered s) (acknowledgement_numbered (read_acknowledgement s)) (λ r. read_acknowledgement s ≡ Err r)
   acknowledgement-tells = ack-answer (read_acknowledgement s) (λ a e. rw (← ((acknowledgement-accepted-iff s a).0 e).1) (o 7, (o 8, o 9)))
 
 -- what a request that arrives is told as
 
-again-told : (s p : List ℕ) → p ≡ [] → TellsTaking s 0 Again p
+again-told : (s p : List ℕ) → p ≡ [] → TellsTaking s 0 (Ok Again) p
 again-told s p e = record {
-  told = tells-accepted refl (λ r f. again-refused (sym f)) (omega arith) refl;
+  told = tells-accepted refl (λ r f. err-ok (sym f)) (omega arith) refl;
   size = rw e refl;
   delivers = ((λ f. never (sym f)), λ f. delivered-again (sym f.1));
 }
 
-refused-told : (s : List ℕ) (q : Refusal) (p : List ℕ) → p ≡ [] → TellsTaking s (number q) (Refused q) p
+refused-told : (s : List ℕ) (q : Refusal) (p : List ℕ) → p ≡ [] → TellsTaking s (number q) (Err q) p
 refused-told s q p e =
     let none : code_number_in (number q) ≡ 0 = omega (arith, (number-listed q).1) in
     record {
-      told = tells-refused q refl refl (λ r. refused-one) (omega arith) (rw (number-alone q, refused-number q));
+      told = tells-refused q refl refl (λ r. err-one) (omega arith) (rw (number-alone q, refused-number q));
       size = rw e (omega (arith, (number-listed q).1));
-      delivers = ((λ f. never (sym f ∙ ap (λ (n : ℕ). not (eqb n 0)) none)), λ f. delivered-refused f.1);
+      delivers = ((λ f. never (sym f ∙ ap (λ (n : ℕ). not (eqb n 0)) none)), λ f. err-ok f.1);
     }
 
-received-answer : (s : List ℕ) (a : Received) → ((x : Request) → a ≡ Delivered x → Carries s x (cemi_payload (Message-is x.message) (message s)))
+received-answer : (s : List ℕ) (a : Result Received Refusal) → ((x : Request) → a ≡ Ok (Delivered x) → Carries s x (cemi_payload (Ok x.message) (message s)))
     → TellsTaking s (received_number a (length (delivered_payload a (delivered_message a s)))) a (delivered_payload a (delivered_message a s))
-received-answer s (Delivered x) v =
-    let p : List ℕ = cemi_payload (Message-is x.message) (message s) in
+received-answer s (Ok (Delivered x)) v =
+    let p : List ℕ = cemi_payload (Ok x.message) (message s) in
     let c = v x refl in
     let t = message-told s x p c in
     record {
-      told = tells-accepted (none s x p c) (λ r e. delivered-refused (sym e)) t.told.fits (delivered-decoded s x p c);
+      told = tells-accepted (none s x p c) (λ r e. err-ok (sym e)) t.told.fits (delivered-decoded s x p c);
       size = t.size;
       delivers = ((λ e. (x, refl)), λ e. ap not (coded s x p c));
     }
-received-answer s Again v = again-told s [] refl
-received-answer s (Refused q) v = refused-told s q [] refl
+received-answer s (Ok Again) v = again-told s [] refl
+received-answer s (Err q) v = refused-told s q [] refl
 
 -- delivered only from a block of the right size, by an open channel
-pub delivered-inside : (block s : List ℕ) (room : ℕ) (x : Request) → received_through block s room ≡ Delivered x
+pub delivered-inside : (block s : List ℕ) (room : ℕ) (x : Request) → received_through block s room ≡ Ok (Delivered x)
     → (are_channels block ≡ true) × Arrives (channel_at (channels_in block) (channel_in s)) s room x
 unfolding received_through
 delivered-inside block s room x e =
     by_cases (are_channels block)
     (λ b. (b, ((delivered-iff (channel_at (channels_in block) (channel_in s)) s room x).0 (rw b at e)).0))
-    (λ b. delivered-refused (rw b at e))
+    (λ b. err-ok (rw b at e))
 
 module _ {block s room : List ℕ} {answer : ℕ} {block' room' : List ℕ} (o : Octets s) (w : TookThrough block s room answer block' room') where
   pub took-told : TellsTaking s answer (received_through block s (length room)) (delivered_payload (received_through block s (length room)) (delivered_message (received_through block s (length room)) s))
@@ -191,19 +183,19 @@ module _ {block s room : List ℕ} {answer : ℕ} {block' room' : List ℕ} (o :
   pub took-reads : delivered_in answer ≡ true → answer ≡ request_answered s
   took-reads d =
       let e = took-told.delivers.0 d in
-      let f : read_request s ≡ Request-is e.0 = (delivered-inside block s (length room) e.0 e.1).1.read in
+      let f : read_request s ≡ Ok e.0 = (delivered-inside block s (length room) e.0 e.1).1.read in
       w.answers
-      ∙ ap (λ (a : Received). received_number a (length (delivered_payload a (delivered_message a s)))) e.1
-      ∙ sym (ap (λ (a : RequestAnswer). cemi_number (message_answer a) (length (request_payload a s))) f)
+      ∙ ap (λ (a : Result Received Refusal). received_number a (length (delivered_payload a (delivered_message a s)))) e.1
+      ∙ sym (ap (λ (a : Result Request Refusal). cemi_number (message_answer a) (length (request_payload a s))) f)
 
 -- what an acknowledgement that arrives is told as
-confirmed-answer : (a : Confirmed) → Tells 9 confirmed_from (confirmed_number a) (confirmed_numbered a) (λ r. a ≡ Unconfirmed r)
-confirmed-answer Raised = tells-accepted refl (λ r e. raised-refused (sym e)) (omega arith) refl
-confirmed-answer Kept = tells-accepted refl (λ r e. kept-refused (sym e)) (omega arith) refl
-confirmed-answer (Unconfirmed q) = tells-refused q refl refl (λ r. unconfirmed-one) (omega arith) (rw (number-alone q, refused-number q))
+confirmed-answer : (a : Result Confirmed Refusal) → Tells 9 confirmed_from (confirmed_number a) (confirmed_numbered a) (λ r. a ≡ Err r)
+confirmed-answer (Ok Raised) = tells-accepted refl (λ r e. err-ok (sym e)) (omega arith) refl
+confirmed-answer (Ok Kept) = tells-accepted refl (λ r e. err-ok (sym e)) (omega arith) refl
+confirmed-answer (Err q) = tells-refused q refl refl (λ r. err-one) (omega arith) (rw (number-alone q, refused-number q))
 
 pub confirmed-told : {block s : List ℕ} {answer : ℕ} {block' : List ℕ} → ConfirmedThrough block s answer block'
-    → Tells 9 confirmed_from answer (confirmed_numbered (confirmed_through block s)) (λ r. confirmed_through block s ≡ Unconfirmed r)
+    → Tells 9 confirmed_from answer (confirmed_numbered (confirmed_through block s)) (λ r. confirmed_through block s ≡ Err r)
 confirmed-told {block} {s} w = rw w.answers (confirmed-answer (confirmed_through block s))
 
 -- what a request that is sent is told as
@@ -211,30 +203,30 @@ module _ {fit : Bool} {block : List ℕ} {n : ℕ} {x : Message} {p room : List 
   abbrev octets : List ℕ
   octets = request_octets n (channel_at (channels_in block) n).send x p
 
-  put-size : (k : ℕ) → sent_through fit block n x p (length room) ≡ Put k → (length octets ≡ k) × (length octets ≤ 274)
+  put-size : (k : ℕ) → sent_through fit block n x p (length room) ≡ Ok k → (length octets ≡ k) × (length octets ≤ 274)
   put-size k e =
       let f = sent-put (are_channels block && fit && message_in_range All x (length p)) (channel_at (channels_in block) n) octets (length room) k e in
       (f.1, request-most (are_channels block && fit) n (channel_at (channels_in block) n).send x p f.0)
 
-  pub sent-told : Tells 64 written_from answer (written_numbered (sent_through fit block n x p (length room))) (λ r. sent_through fit block n x p (length room) ≡ Unwritten r)
+  pub sent-told : Tells 64 written_from answer (written_numbered (sent_through fit block n x p (length room))) (λ r. sent_through fit block n x p (length room) ≡ Err r)
   sent-told = rw w.answers (written-answer (sent_through fit block n x p (length room)) (λ k e. let f = put-size k e in omega (arith, f.0, f.1)))
 
   -- sent: the whole request, with the channel's send counter
   pub sent-whole : number_in answer ≡ 0 → (written_in answer ≡ length p + 19) × (room' ≡ over (request_octets n (channel_at (channels_in block) n).send x p) room)
   sent-whole z = go (sent_through fit block n x p (length room)) refl
     where
-      go : (v : Written) → sent_through fit block n x p (length room) ≡ v → (written_in answer ≡ length p + 19) × (room' ≡ over octets room)
-      go (Put k) e =
-          let d : written_from answer ≡ written_numbered (Put k) = sent-told.decoded ∙ ap written_numbered e in
+      go : (v : Result ℕ Refusal) → sent_through fit block n x p (length room) ≡ v → (written_in answer ≡ length p + 19) × (room' ≡ over octets room)
+      go (Ok k) e =
+          let d : written_from answer ≡ written_numbered (Ok k) = sent-told.decoded ∙ ap written_numbered e in
           let v : written_in answer ∷ [] ≡ k ∷ [] = sym (accepted-values answer (written_in answer ∷ []) z) ∙ ap (λ (i : Numbered). i.values) d in
           let f : written_in answer ≡ k = ap (λ (l : List ℕ). get_or l 0 0) v in
-          (omega (arith, f, (put-size k e).0, length-request n (channel_at (channels_in block) n).send x p), w.left ∙ ap (λ (u : Written). room_after u octets room) e)
-      go (Unwritten r) e = absurd (sent-told.accepted.0 z r e)
+          (omega (arith, f, (put-size k e).0, length-request n (channel_at (channels_in block) n).send x p), w.left ∙ ap (λ (u : Result ℕ Refusal). room_after u octets room) e)
+      go (Err r) e = absurd (sent-told.accepted.0 z r e)
 
   -- refused: the room as it was
   pub sent-leaves : (number_in answer ≡ 0 → ⊥) → room' ≡ room
   sent-leaves h = go (sent_through fit block n x p (length room)) refl
     where
-      go : (v : Written) → sent_through fit block n x p (length room) ≡ v → room' ≡ room
-      go (Put k) e = absurd (h (sent-told.accepted.1 (λ r f. put_refused (sym f ∙ e))))
-      go (Unwritten r) e = w.left ∙ ap (λ (u : Written). room_after u octets room) e
+      go : (v : Result ℕ Refusal) → sent_through fit block n x p (length room) ≡ v → room' ≡ room
+      go (Ok k) e = absurd (h (sent-told.accepted.1 (λ r f. err-ok (sym f ∙ e))))
+      go (Err r) e = w.left ∙ ap (λ (u : Result ℕ Refusal). room_after u octets room) e

@@ -1,4 +1,5 @@
 -- A writer's number is the size above eight bits. No frame has more than 274 octets.
+use Rattle.std.specs.Prelude.{Result, Ok, Err}
 use Prim.Native.Nat.{ℕ, ◌*◌, ◌^◌, ◌≤◌}
 use mathlib.Core.Bool.{Bool, true, ◌&&◌}
 use mathlib.Core.List.{List, [], ◌∷◌}
@@ -11,7 +12,7 @@ use Rattle.cemi.specs.Writing.{message_in_range}
 use Rattle.cemi.specs.declared.Codes.TheVariants.{All}
 use Rattle.cemi.specs.declared.Codes.{Codes}
 use Rattle.cemi.specs.declared.Message.{Message}
-use Rattle.frame.proofs.Apart.{put_refused, unwritten-one}
+use Rattle.frame.proofs.Apart.{err-ok, err-one}
 use Rattle.frame.proofs.Numbers.{refused-number}
 use Rattle.frame.proofs.Valid.{most-payload}
 use Rattle.frame.proofs.Writing.{put-iff}
@@ -19,8 +20,6 @@ use Rattle.frame.specs.Answers.{Numbered, written_numbered}
 use Rattle.frame.specs.Valid.{in_range}
 use Rattle.frame.specs.Writing.{written, room_after}
 use Rattle.frame.specs.declared.Meaning.{Meaning}
-use Rattle.frame.specs.declared.Written.{Written}
-use Rattle.frame.specs.declared.Written.TheVariants.{Put, Refused}
 use Rattle.klumdray.proofs.Bits.{Field, ◌holding◌, packed, Fit, read_back, below}
 use Rattle.klumdray.proofs.Telling.{number-alone, tells-refused, tells-accepted, accepted-values}
 use Rattle.klumdray.specs.Decoding.{number_in, written_in, written_from, Tells}
@@ -33,19 +32,20 @@ use Rattle.tp1.specs.Layout.{tp1_octets}
 use Rattle.tunnelling.proofs.LayoutLaws.{length-request, length-acknowledgement}
 use Rattle.tunnelling.specs.Layout.{request_octets, acknowledgement_octets}
 use Rattle.tunnelling.specs.declared.Acknowledgement.{Acknowledgement}
+use Rattle.frame.specs.declared.Refusal.{Refusal}
 
-pub written-answer : (w : Written) → ((n : ℕ) → w ≡ Put n → n ≤ 274) → Tells 64 written_from (written_number w) (written_numbered w) (λ r. w ≡ Refused r)
-written-answer (Put n) h =
+pub written-answer : (w : Result ℕ Refusal) → ((n : ℕ) → w ≡ Ok n → n ≤ 274) → Tells 64 written_from (written_number w) (written_numbered w) (λ r. w ≡ Err r)
+written-answer (Ok n) h =
     let fs : List Field = 8 holding 0 ∷ 56 holding n ∷ [] in
     let fit : Fit fs = (omega arith, (omega (arith, h n refl), tt)) in
     let e : n * 2 ^ 8 ≡ packed fs = omega arith in
     let field = read_back fs (n * 2 ^ 8) fit e in
     let z : number_in (n * 2 ^ 8) ≡ 0 = field 0 (omega arith) in
-    tells-accepted z (λ r e. put_refused (sym e)) (below fs (n * 2 ^ 8) fit e) (rw (z, field 1 (omega arith)))
-written-answer (Refused q) h = tells-refused q refl refl (λ r. unwritten-one) (omega arith) (rw (number-alone q, refused-number q))
+    tells-accepted z (λ r e. err-ok (sym e)) (below fs (n * 2 ^ 8) fit e) (rw (z, field 1 (omega arith)))
+written-answer (Err q) h = tells-refused q refl refl (λ r. err-one) (omega arith) (rw (number-alone q, refused-number q))
 
 module _ {ranged : Bool} {octets room : List ℕ} {answer : ℕ} {after : List ℕ} (most : ranged ≡ true → length octets ≤ 274) (w : WroteNumber ranged octets room answer after) where
-  pub written-told : Tells 64 written_from answer (written_numbered (written ranged octets room)) (λ r. written ranged octets room ≡ Refused r)
+  pub written-told : Tells 64 written_from answer (written_numbered (written ranged octets room)) (λ r. written ranged octets room ≡ Err r)
   written-told =
       rw w.answered (written-answer (written ranged octets room) (λ n e. let x = (put-iff ranged octets room n).0 e in omega (arith, most x.0, x.1.1)))
 
@@ -53,20 +53,20 @@ module _ {ranged : Bool} {octets room : List ℕ} {answer : ℕ} {after : List �
   pub written-size : number_in answer ≡ 0 → written_in answer ≡ length octets
   written-size z = go (written ranged octets room) refl
     where
-      go : (v : Written) → written ranged octets room ≡ v → written_in answer ≡ length octets
-      go (Put n) e =
-          let d : written_from answer ≡ written_numbered (Put n) = written-told.decoded ∙ ap written_numbered e in
+      go : (v : Result ℕ Refusal) → written ranged octets room ≡ v → written_in answer ≡ length octets
+      go (Ok n) e =
+          let d : written_from answer ≡ written_numbered (Ok n) = written-told.decoded ∙ ap written_numbered e in
           let v : written_in answer ∷ [] ≡ n ∷ [] = sym (accepted-values answer (written_in answer ∷ []) z) ∙ ap (λ (i : Numbered). i.values) d in
           ap (λ (l : List ℕ). get_or l 0 0) v ∙ sym ((put-iff ranged octets room n).0 e).1.1
-      go (Refused r) e = absurd (written-told.accepted.0 z r e)
+      go (Err r) e = absurd (written-told.accepted.0 z r e)
 
   -- refused: the room as it was
   pub written-leaves : (number_in answer ≡ 0 → ⊥) → after ≡ room
   written-leaves n = go (written ranged octets room) refl
     where
-      go : (v : Written) → written ranged octets room ≡ v → after ≡ room
-      go (Put k) e = absurd (n (written-told.accepted.1 (λ r f. put_refused (sym f ∙ e))))
-      go (Refused r) e = w.left ∙ ap (λ (v : Written). room_after v octets room) e
+      go : (v : Result ℕ Refusal) → written ranged octets room ≡ v → after ≡ room
+      go (Ok k) e = absurd (n (written-told.accepted.1 (λ r f. err-ok (sym f ∙ e))))
+      go (Err r) e = w.left ∙ ap (λ (v : Result ℕ Refusal). room_after v octets room) e
 
 -- each format's frame, where the numbers are in range
 pub tp1-most : (fit : Bool) (m : Meaning) (p : List ℕ) → fit && in_range m (length p) ≡ true → length (tp1_octets m p) ≤ 274

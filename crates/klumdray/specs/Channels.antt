@@ -1,16 +1,14 @@
 -- The lent block of tunnelling's channels. Document 02, R-1: "four channels, numbered 1 to 4, each open or closed with a receive and a send
 -- counter from 0 to 255". Three octets for each of them, from the first on: open (01h; every other value is closed), the receive counter,
 -- the send counter. include/klumdray.h says the same in its words. How many channels there are is `many` of crate channels alone.
-use Rattle.std.specs.Prelude.{ℕ, zero, suc, ◌+◌, ◌*◌, ◌^◌, ◌≡◌, List, [], ◌∷◌, Bool, cond, ◌&&◌, length, drop, set, eqb}
+use Rattle.std.specs.Prelude.{ℕ, zero, suc, ◌+◌, ◌*◌, ◌^◌, ◌≡◌, List, [], ◌∷◌, Bool, cond, ◌&&◌, length, drop, set, eqb, Result, Ok, Err}
 use Rattle.octets.specs.Octets.{octet_at}
 use Rattle.octets.specs.Room.{over}
 use Rattle.frame.specs.Refusals.{number}
 use Rattle.frame.specs.Writing.{room_after}
 use Rattle.frame.specs.declared.Refusal.TheVariants.{OutOfRange}
-use Rattle.frame.specs.declared.Written.{Written}
 use Rattle.cemi.specs.Reading.{payload_in}
 use Rattle.cemi.specs.Writing.{message_in_range}
-use Rattle.cemi.specs.declared.CemiAnswer.TheVariants.{Frame}
 use Rattle.cemi.specs.declared.Codes.TheVariants.{All}
 use Rattle.cemi.specs.declared.Message.{Message}
 use Rattle.channels.specs.Calls.{answered}
@@ -22,10 +20,11 @@ use Rattle.exchange.specs.Confirming.{confirming}
 use Rattle.exchange.specs.Receiving.{receiving, sent_back, delivered_message}
 use Rattle.exchange.specs.Sending.{sent_by}
 use Rattle.exchange.specs.declared.Confirmed.{Confirmed}
-use Rattle.exchange.specs.declared.Confirmed.TheVariants.{Raised, Kept, Refused as Unconfirmed}
+use Rattle.exchange.specs.declared.Confirmed.TheVariants.{Raised, Kept}
 use Rattle.exchange.specs.declared.Received.{Received}
-use Rattle.exchange.specs.declared.Received.TheVariants.{Delivered, Again, Refused}
+use Rattle.exchange.specs.declared.Received.TheVariants.{Delivered, Again}
 use Rattle.klumdray.specs.Numbers.{message_number, written_number}
+use Rattle.frame.specs.declared.Refusal.{Refusal}
 
 -- how many octets a channel has, and which of them is which
 abbrev pub channel_size : ℕ
@@ -63,44 +62,44 @@ with_octet block zero place octet = block
 with_octet block (suc k) place octet = set block (channel_size * k + place) octet
 
 -- "The expected counter is acknowledged, delivered and raised by one"; "A request one behind .. is acknowledged again and not delivered"
-abbrev pub block_received : Received → Channel → ℕ → List ℕ → List ℕ
-block_received (Delivered x) c n block = with_octet block n receive_place (raised c.receive)
-block_received Again c n block = block
-block_received (Refused r) c n block = block
+abbrev pub block_received : Result Received Refusal → Channel → ℕ → List ℕ → List ℕ
+block_received (Ok (Delivered x)) c n block = with_octet block n receive_place (raised c.receive)
+block_received (Ok Again) c n block = block
+block_received (Err r) c n block = block
 
 -- "an acknowledgement of that counter with status 00h raises it, with another status changes nothing"
-abbrev pub block_confirmed : Confirmed → Channel → ℕ → List ℕ → List ℕ
-block_confirmed Raised c n block = with_octet block n send_place (raised c.send)
-block_confirmed Kept c n block = block
-block_confirmed (Unconfirmed r) c n block = block
+abbrev pub block_confirmed : Result Confirmed Refusal → Channel → ℕ → List ℕ → List ℕ
+block_confirmed (Ok Raised) c n block = with_octet block n send_place (raised c.send)
+block_confirmed (Ok Kept) c n block = block
+block_confirmed (Err r) c n block = block
 
 -- a request that is delivered: as a reader's answer of it, and so never 0; "acknowledged again": 0; a refusal is its number alone
-abbrev pub received_number : Received → ℕ → ℕ
-received_number (Delivered x) payload = message_number x.message payload
-received_number Again payload = 0
-received_number (Refused r) payload = number r
+abbrev pub received_number : Result Received Refusal → ℕ → ℕ
+received_number (Ok (Delivered x)) payload = message_number x.message payload
+received_number (Ok Again) payload = 0
+received_number (Err r) payload = number r
 
 -- the payload of a message that is delivered
-abbrev pub delivered_payload : Received → List ℕ → List ℕ
-delivered_payload (Delivered x) message = payload_in (Frame x.message) message
-delivered_payload Again message = []
-delivered_payload (Refused r) message = []
+abbrev pub delivered_payload : Result Received Refusal → List ℕ → List ℕ
+delivered_payload (Ok (Delivered x)) message = payload_in (Ok x.message) message
+delivered_payload (Ok Again) message = []
+delivered_payload (Err r) message = []
 
 -- bit 8: the send counter is raised
-abbrev pub confirmed_number : Confirmed → ℕ
-confirmed_number Raised = 2 ^ 8
-confirmed_number Kept = 0
-confirmed_number (Unconfirmed r) = number r
+abbrev pub confirmed_number : Result Confirmed Refusal → ℕ
+confirmed_number (Ok Raised) = 2 ^ 8
+confirmed_number (Ok Kept) = 0
+confirmed_number (Err r) = number r
 
 -- a block of another size is refused by 14, before any other refusal (docs/DECISIONS.md)
-unfoldable pub received_through : List ℕ → List ℕ → ℕ → Received
-received_through block s room = cond (are_channels block) (answered (receiving s room) (channels_in block)) (Refused OutOfRange)
+unfoldable pub received_through : List ℕ → List ℕ → ℕ → Result Received Refusal
+received_through block s room = cond (are_channels block) (answered (receiving s room) (channels_in block)) (Err OutOfRange)
 
-unfoldable pub confirmed_through : List ℕ → List ℕ → Confirmed
-confirmed_through block s = cond (are_channels block) (answered (confirming s) (channels_in block)) (Unconfirmed OutOfRange)
+unfoldable pub confirmed_through : List ℕ → List ℕ → Result Confirmed Refusal
+confirmed_through block s = cond (are_channels block) (answered (confirming s) (channels_in block)) (Err OutOfRange)
 
 -- "Sending checks 14, 20, 13": the block's size and the numbers that do not fit are among the first
-abbrev pub sent_through : Bool → List ℕ → ℕ → Message → List ℕ → ℕ → Written
+abbrev pub sent_through : Bool → List ℕ → ℕ → Message → List ℕ → ℕ → Result ℕ Refusal
 sent_through fit block n x p room =
     let c = channel_at (channels_in block) n in
     sent_by (are_channels block && fit && message_in_range All x (length p)) c (request_octets n c.send x p) room

@@ -1,11 +1,11 @@
 -- The numbers that cross the surface, taken apart again: what the helpers at the end of include/klumdray.h work out, each under its name
 -- there. Beside them the whole answer, as document 01's number and values.
-use Rattle.std.specs.Prelude.{ℕ, ◌+◌, ◌-◌, ◌*◌, ◌/◌, ◌%◌, ◌^◌, ◌≤◌, ◌<◌, Bool, true, cond, not, ◌&&◌, List, [], ◌∷◌, ◌↔◌, ◌≡◌, ltb, leb, eqb, ℤ, length, take, drop, get_or}
+use Rattle.std.specs.Prelude.{ℕ, ◌+◌, ◌-◌, ◌*◌, ◌/◌, ◌%◌, ◌^◌, ◌≤◌, ◌<◌, Bool, true, cond, not, ◌&&◌, List, [], ◌∷◌, ◌↔◌, ◌≡◌, ltb, leb, eqb, ℤ, length, take, drop, get_or, Result, Ok, Err}
 use Rattle.coupler.specs.Step.{acknowledgement_number}
 use Rattle.coupler.specs.declared.Acknowledgement.TheVariants.{Silence, Acknowledged}
 use Rattle.coupler.specs.declared.Outcome.{Outcome}
 use Rattle.exchange.specs.Answers.{received_numbered}
-use Rattle.exchange.specs.declared.Received.TheVariants.{Delivered, Refused as Unreceived}
+use Rattle.exchange.specs.declared.Received.TheVariants.{Delivered}
 use Rattle.exchange.specs.declared.Received.{Received}
 use Rattle.frame.specs.Answers.{Numbered}
 use Rattle.frame.specs.Refusals.{number}
@@ -242,10 +242,10 @@ pub record TellsReading (width : ℕ) (from : ℕ → Numbered) (answer : ℕ) (
   pub some : number_in answer ≡ 0 → 1 ≤ payload_length_in answer
 
 -- the answer to a request that arrives: also whether it is delivered, and the length of the payload that is
-pub record TellsTaking (s : List ℕ) (answer : ℕ) (a : Received) (payload : List ℕ) : Type 0 where
-  pub told : Tells 59 (received_from s) answer (received_numbered a) (λ r. a ≡ Unreceived r)
+pub record TellsTaking (s : List ℕ) (answer : ℕ) (a : Result Received Refusal) (payload : List ℕ) : Type 0 where
+  pub told : Tells 59 (received_from s) answer (received_numbered a) (λ r. a ≡ Err r)
   pub size : payload_length_in answer ≡ length payload
-  pub delivers : delivered_in answer ≡ true ↔ ((x : Request) × (a ≡ Delivered x))
+  pub delivers : delivered_in answer ≡ true ↔ ((x : Request) × (a ≡ Ok (Delivered x)))
 
 -- where parts of the caller's own octets begin, and how many octets they have
 

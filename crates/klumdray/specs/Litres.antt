@@ -1,7 +1,7 @@
 -- The two-octet float and the leak total at the surface. A total is lent in a block of eight octets: 64 bits in two's complement, high octet
 -- first. A station that listens to a line is lent its total and the frame that it remembers, 265 octets as one side of a coupler's memory.
 -- include/klumdray.h says the same in its words.
-use Rattle.std.specs.Prelude.{ℕ, suc, ◌+◌, ◌-◌, ◌*◌, ◌/◌, ◌%◌, ◌^◌, ◌≡◌, List, [], ◌∷◌, Bool, cond, ◌&&◌, ltb, leb, eqb, ℤ, pos, negsuc, length}
+use Rattle.std.specs.Prelude.{ℕ, suc, ◌+◌, ◌-◌, ◌*◌, ◌/◌, ◌%◌, ◌^◌, ◌≡◌, List, [], ◌∷◌, Bool, cond, ◌&&◌, ltb, leb, eqb, ℤ, pos, negsuc, length, Result, Ok, Err, Option, Some, None}
 use Rattle.std.proofs.Math.IntN.{sub_ℕ}
 use Rattle.octets.specs.Octets.{weigh}
 use Rattle.octets.specs.Word.{high, low, word_at}
@@ -10,19 +10,12 @@ use Rattle.frame.specs.declared.Refusal.TheVariants.{OutOfRange}
 use Rattle.coupler.specs.Memory.{recalled, remembering}
 use Rattle.leak.specs.Reading.{read_code}
 use Rattle.leak.specs.Total.{add_to}
-use Rattle.leak.specs.declared.Value.{Value}
-use Rattle.leak.specs.declared.Value.TheVariants.{Hundredths, Refused as Unread}
-use Rattle.leak.specs.declared.Coded.{Coded}
-use Rattle.leak.specs.declared.Coded.TheVariants.{Code, Refused as Unwritten}
-use Rattle.leak.specs.declared.Carried.{Carried}
-use Rattle.leak.specs.declared.Carried.TheVariants.{Float, Nothing}
-use Rattle.leak.specs.declared.Added.{Added}
-use Rattle.leak.specs.declared.Added.TheVariants.{Sum, Refused as Unadded}
 use Rattle.station.specs.Taking.{taken_by}
 use Rattle.station.specs.declared.Telegram.{Telegram}
-use Rattle.station.specs.declared.Telegram.TheVariants.{Increment, Repetition, OtherGroup, NoIncrement, Refused}
+use Rattle.station.specs.declared.Telegram.TheVariants.{Increment, Repetition, OtherGroup, NoIncrement}
 use Rattle.station.specs.declared.Tally.{Tally}
 use Rattle.klumdray.specs.Block.{remembered_in, half_of}
+use Rattle.frame.specs.declared.Refusal.{Refusal}
 
 -- a signed number in so many bits of two's complement
 abbrev pub in_bits : ℕ → ℤ → ℕ
@@ -34,23 +27,23 @@ abbrev pub signed_of : ℕ → ℕ → ℤ
 signed_of width bits = sub_ℕ bits (weigh (leb (2 ^ (width - 1)) bits) (2 ^ width))
 
 -- bits 0 to 7 the number, 32 to 63 the hundredths
-abbrev pub value_number : Value → ℕ
-value_number (Hundredths z) = in_bits 32 z * 2 ^ 32
-value_number (Unread r) = number r
+abbrev pub value_number : Result ℤ Refusal → ℕ
+value_number (Ok z) = in_bits 32 z * 2 ^ 32
+value_number (Err r) = number r
 
 -- a code has 16 bits; every other number is refused by 14
-unfoldable pub value_given : ℕ → Value
-value_given code = cond (ltb code 65536) (read_code code) (Unread OutOfRange)
+unfoldable pub value_given : ℕ → Result ℤ Refusal
+value_given code = cond (ltb code 65536) (read_code code) (Err OutOfRange)
 
 -- bits 16 to 31 the code
-abbrev pub coded_number : Coded → ℕ
-coded_number (Code code) = code * 2 ^ 16
-coded_number (Unwritten r) = number r
+abbrev pub coded_number : Result ℕ Refusal → ℕ
+coded_number (Ok code) = code * 2 ^ 16
+coded_number (Err r) = number r
 
 -- bit 8: the payload is an increment
-abbrev pub carried_number : Carried → ℕ
-carried_number (Float code) = 2 ^ 8 + code * 2 ^ 16
-carried_number Nothing = 0
+abbrev pub carried_number : Option ℕ → ℕ
+carried_number (Some code) = 2 ^ 8 + code * 2 ^ 16
+carried_number None = 0
 
 -- a block that is lent for a total, by its size
 abbrev pub is_total : List ℕ → Bool
@@ -79,18 +72,18 @@ bits_octets bits =
 unfoldable pub total_octets : ℤ → List ℕ
 total_octets total = bits_octets (in_bits 64 total)
 
-abbrev pub added_number : Added → ℕ
-added_number (Sum s) = 0
-added_number (Unadded r) = number r
+abbrev pub added_number : Result ℤ Refusal → ℕ
+added_number (Ok s) = 0
+added_number (Err r) = number r
 
 -- "a sum past the range is refused (24) and the total stays"
-abbrev pub block_added : Added → List ℕ → List ℕ
-block_added (Sum s) block = total_octets s
-block_added (Unadded r) block = block
+abbrev pub block_added : Result ℤ Refusal → List ℕ → List ℕ
+block_added (Ok s) block = total_octets s
+block_added (Err r) block = block
 
 -- a block of another size and a code of more bits are refused by 14, before any other refusal (docs/DECISIONS.md)
-unfoldable pub added_through : List ℕ → ℕ → Added
-added_through block code = cond (is_total block && ltb code 65536) (add_to (total_in block) code) (Unadded OutOfRange)
+unfoldable pub added_through : List ℕ → ℕ → Result ℤ Refusal
+added_through block code = cond (is_total block && ltb code 65536) (add_to (total_in block) code) (Err OutOfRange)
 
 -- adding through the surface: the inner call's answer as a number, its total in the block
 pub record AddedThrough (block : List ℕ) (code answer : ℕ) (block' : List ℕ) : Type 0 where
@@ -98,28 +91,28 @@ pub record AddedThrough (block : List ℕ) (code answer : ℕ) (block' : List �
   pub counted : block' ≡ block_added (added_through block code) block
 
 -- bits 8 to 15 what the frame is, 16 to 31 the code that was added
-abbrev pub telegram_number : Telegram → ℕ
-telegram_number (Increment code) = 1 * 2 ^ 8 + code * 2 ^ 16
-telegram_number Repetition = 2 * 2 ^ 8
-telegram_number OtherGroup = 3 * 2 ^ 8
-telegram_number NoIncrement = 4 * 2 ^ 8
-telegram_number (Refused r) = number r
+abbrev pub telegram_number : Result Telegram Refusal → ℕ
+telegram_number (Ok (Increment code)) = 1 * 2 ^ 8 + code * 2 ^ 16
+telegram_number (Ok Repetition) = 2 * 2 ^ 8
+telegram_number (Ok OtherGroup) = 3 * 2 ^ 8
+telegram_number (Ok NoIncrement) = 4 * 2 ^ 8
+telegram_number (Err r) = number r
 
 -- "Afterwards the accepted frame is the remembered one"; with a refusal "nothing remembered changes"
-abbrev pub memory_taken : Telegram → List ℕ → List ℕ → List ℕ
-memory_taken (Increment code) block s = half_of (remembering (remembered_in block) s)
-memory_taken Repetition block s = half_of (remembering (remembered_in block) s)
-memory_taken OtherGroup block s = half_of (remembering (remembered_in block) s)
-memory_taken NoIncrement block s = half_of (remembering (remembered_in block) s)
-memory_taken (Refused r) block s = block
+abbrev pub memory_taken : Result Telegram Refusal → List ℕ → List ℕ → List ℕ
+memory_taken (Ok (Increment code)) block s = half_of (remembering (remembered_in block) s)
+memory_taken (Ok Repetition) block s = half_of (remembering (remembered_in block) s)
+memory_taken (Ok OtherGroup) block s = half_of (remembering (remembered_in block) s)
+memory_taken (Ok NoIncrement) block s = half_of (remembering (remembered_in block) s)
+memory_taken (Err r) block s = block
 
 -- only what is counted changes the total's block
-abbrev pub total_taken : ℤ → Telegram → List ℕ → List ℕ
-total_taken total (Increment code) block = total_octets total
-total_taken total Repetition block = block
-total_taken total OtherGroup block = block
-total_taken total NoIncrement block = block
-total_taken total (Refused r) block = block
+abbrev pub total_taken : ℤ → Result Telegram Refusal → List ℕ → List ℕ
+total_taken total (Ok (Increment code)) block = total_octets total
+total_taken total (Ok Repetition) block = block
+total_taken total (Ok OtherGroup) block = block
+total_taken total (Ok NoIncrement) block = block
+total_taken total (Err r) block = block
 
 -- both blocks by their size, and a group address of 16 bits: refused by 14, before any other refusal
 abbrev pub is_lent : List ℕ → List ℕ → ℕ → Bool
@@ -128,7 +121,7 @@ is_lent total memory group = is_total total && eqb (length memory) 265 && ltb gr
 unfoldable pub taken_through : List ℕ → List ℕ → ℕ → List ℕ → Tally
 taken_through total memory group s =
     cond (is_lent total memory group) (taken_by (total_in total) group (recalled (remembered_in memory)) s)
-    record { telegram = Refused OutOfRange; total = total_in total }
+    record { telegram = Err OutOfRange; total = total_in total }
 
 -- taking a frame through the surface: what the station inside does, its total and the frame that it remembers in the blocks
 pub record TookFrame (total memory : List ℕ) (group : ℕ) (s : List ℕ) (answer : ℕ) (total' memory' : List ℕ) : Type 0 where

@@ -1,32 +1,24 @@
 -- The numbers that cross the surface: include/klumdray.h says the same in its words.
-use Rattle.std.specs.Prelude.{ℕ, ◌+◌, ◌*◌, ◌%◌, ◌^◌, Bool, cond, ◌&&◌, List, ◌≡◌, ltb, eqb, length}
+use Rattle.std.specs.Prelude.{ℕ, ◌+◌, ◌*◌, ◌%◌, ◌^◌, Bool, cond, ◌&&◌, List, ◌≡◌, ltb, eqb, length, Result, Ok, Err}
 use Rattle.cemi.specs.Layout.{plain}
 use Rattle.cemi.specs.Writing.{message_in_range}
-use Rattle.cemi.specs.declared.CemiAnswer.{CemiAnswer}
 use Rattle.cemi.specs.declared.Codes.TheVariants.{All, IndicationOnly}
 use Rattle.cemi.specs.declared.Message.{Message}
 use Rattle.frame.specs.Refusals.{number}
 use Rattle.frame.specs.Valid.{in_range}
 use Rattle.frame.specs.Writing.{written, room_after}
 use Rattle.frame.specs.declared.Meaning.{Meaning}
-use Rattle.frame.specs.declared.Written.{Written}
 use Rattle.octets.specs.Octets.{weigh}
 use Rattle.routing.specs.Layout.{routing_octets}
 use Rattle.routing.specs.Reading.{read_routing, routed_payload}
 use Rattle.tp1.specs.Layout.{tp1_octets}
 use Rattle.tp1.specs.Reading.{read_tp1, payload_in}
-use Rattle.tp1.specs.declared.Tp1Answer.TheVariants.{Frame, Refused}
-use Rattle.tp1.specs.declared.Tp1Answer.{Tp1Answer}
 use Rattle.tunnelling.specs.Layout.{request_octets, acknowledgement_octets}
 use Rattle.tunnelling.specs.Reading.{read_request, request_message, read_acknowledgement}
 use Rattle.tunnelling.specs.declared.Acknowledgement.{Acknowledgement}
-use Rattle.tunnelling.specs.declared.AcknowledgementAnswer.TheVariants.{Frame as Acknowledged, Refused as Unacknowledged}
-use Rattle.tunnelling.specs.declared.AcknowledgementAnswer.{AcknowledgementAnswer}
-use Rattle.tunnelling.specs.declared.RequestAnswer.TheVariants.{Frame as Request-is, Refused as Request-not}
-use Rattle.tunnelling.specs.declared.RequestAnswer.{RequestAnswer}
-use Rattle.frame.specs.declared.Written.TheVariants.{Put, Refused as Unwritten}
 use Rattle.cemi.specs.Reading.{read_cemi, payload_in as cemi_payload}
-use Rattle.cemi.specs.declared.CemiAnswer.TheVariants.{Frame as Message-is, Refused as Message-not}
+use Rattle.frame.specs.declared.Refusal.{Refusal}
+use Rattle.tunnelling.specs.declared.Request.{Request}
 
 -- one octet: format (bit 0), repeat flag (1), priority (2 and 3), AT (4), hop count (5 to 7)
 unfoldable pub flags_of : Meaning → ℕ
@@ -37,9 +29,9 @@ unfoldable pub meaning_number : Meaning → ℕ → ℕ
 meaning_number m payload = flags_of m * 2 ^ 8 + m.source * 2 ^ 16 + m.destination * 2 ^ 32 + payload % 256 * 2 ^ 48
 
 -- a reader's answer; a refusal is its number alone
-abbrev pub tp1_number : Tp1Answer → ℕ → ℕ
-tp1_number (Frame m) payload = meaning_number m payload
-tp1_number (Refused r) payload = number r
+abbrev pub tp1_number : Result Meaning Refusal → ℕ → ℕ
+tp1_number (Ok m) payload = meaning_number m payload
+tp1_number (Err r) payload = number r
 
 -- message codes: 1 request, 2 confirmation, 3 indication
 unfoldable pub code_number : ℕ → ℕ
@@ -49,9 +41,9 @@ code_number c = cond (eqb c 0x11) 1 (cond (eqb c 0x2E) 2 (cond (eqb c 0x29) 3 0)
 unfoldable pub message_number : Message → ℕ → ℕ
 message_number x payload = meaning_number x.meaning payload + (code_number x.code + weigh x.error 4) * 2 ^ 56
 
-abbrev pub cemi_number : CemiAnswer → ℕ → ℕ
-cemi_number (Message-is x) payload = message_number x payload
-cemi_number (Message-not r) payload = number r
+abbrev pub cemi_number : Result Message Refusal → ℕ → ℕ
+cemi_number (Ok x) payload = message_number x payload
+cemi_number (Err r) payload = number r
 
 -- what the readers answer: the inner call's answer, and the length of the payload that it hands out
 abbrev pub tp1_answered : List ℕ → ℕ
@@ -64,20 +56,20 @@ abbrev pub routing_answered : List ℕ → ℕ
 routing_answered s = cemi_number (read_routing s) (length (routed_payload (read_routing s) s))
 
 -- a tunnelling request's: that of its message. Channel and counter stand in the datagram itself
-abbrev pub message_answer : RequestAnswer → CemiAnswer
-message_answer (Request-is x) = Message-is x.message
-message_answer (Request-not r) = Message-not r
+abbrev pub message_answer : Result Request Refusal → Result Message Refusal
+message_answer (Ok x) = Ok x.message
+message_answer (Err r) = Err r
 
-abbrev pub request_payload : RequestAnswer → List ℕ → List ℕ
+abbrev pub request_payload : Result Request Refusal → List ℕ → List ℕ
 request_payload a s = cemi_payload (message_answer a) (request_message a s)
 
 abbrev pub request_answered : List ℕ → ℕ
 request_answered s = cemi_number (message_answer (read_request s)) (length (request_payload (read_request s) s))
 
 -- an acknowledgement's: bits 8 to 15 the channel, 16 to 23 the counter, 24 to 31 the status
-abbrev pub acknowledged_number : AcknowledgementAnswer → ℕ
-acknowledged_number (Acknowledged a) = a.channel * 2 ^ 8 + a.counter * 2 ^ 16 + a.status * 2 ^ 24
-acknowledged_number (Unacknowledged r) = number r
+abbrev pub acknowledged_number : Result Acknowledgement Refusal → ℕ
+acknowledged_number (Ok a) = a.channel * 2 ^ 8 + a.counter * 2 ^ 16 + a.status * 2 ^ 24
+acknowledged_number (Err r) = number r
 
 abbrev pub acknowledgement_answered : List ℕ → ℕ
 acknowledgement_answered s = acknowledged_number (read_acknowledgement s)
@@ -125,9 +117,9 @@ abbrev pub acknowledgement_from : ℕ → ℕ → ℕ → Acknowledgement
 acknowledgement_from channel counter status = record { channel = channel; counter = counter; status = status }
 
 -- a writer's answer: bits 0 to 7 the refusal's number or 0, bits 8 on the octets written
-abbrev pub written_number : Written → ℕ
-written_number (Put n) = n * 2 ^ 8
-written_number (Unwritten r) = number r
+abbrev pub written_number : Result ℕ Refusal → ℕ
+written_number (Ok n) = n * 2 ^ 8
+written_number (Err r) = number r
 
 -- what a writer of the surface answers and leaves in the room: the inner writer's answer, as a number
 pub record WroteNumber (ranged : Bool) (octets room : List ℕ) (answer : ℕ) (after : List ℕ) : Type 0 where

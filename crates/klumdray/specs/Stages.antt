@@ -1,17 +1,14 @@
 -- The lent block and the numbers in stages: for the contracts of private functions. No public contract rests on these definitions.
-use Rattle.std.specs.Prelude.{ℕ, zero, suc, ◌+◌, ◌*◌, ◌%◌, ◌^◌, ◌<◌, List, [], ◌∷◌, Bool, true, false, cond, ℤ, length, ltb, leb, eqb}
+use Rattle.std.specs.Prelude.{ℕ, zero, suc, ◌+◌, ◌*◌, ◌%◌, ◌^◌, ◌<◌, List, [], ◌∷◌, Bool, true, false, cond, ℤ, length, ltb, leb, eqb, Result, Ok, Err}
 use Rattle.octets.specs.Octets.{octet_at}
 use Rattle.octets.specs.Word.{high, low, word_at}
 use Rattle.octets.specs.Room.{laid}
-use Rattle.frame.specs.declared.Written.{Written}
-use Rattle.frame.specs.declared.Written.TheVariants.{Put, Refused as Unwritten}
 use Rattle.channels.specs.declared.Channel.{Channel}
-use Rattle.leak.specs.declared.Added.{Added}
-use Rattle.leak.specs.declared.Added.TheVariants.{Sum, Refused as Unadded}
 use Rattle.station.specs.declared.Telegram.{Telegram}
-use Rattle.station.specs.declared.Telegram.TheVariants.{Increment, Repetition, OtherGroup, NoIncrement, Refused}
+use Rattle.station.specs.declared.Telegram.TheVariants.{Increment, Repetition, OtherGroup, NoIncrement}
 use Rattle.klumdray.specs.Litres.{total_octets}
 use Rattle.klumdray.specs.Channels.{channel_size, open_place, receive_place, send_place}
+use Rattle.frame.specs.declared.Refusal.{Refusal}
 
 -- the side that the step inside is handed: 2, which is none, for every number that is none
 abbrev pub side_or_none : ℕ → ℕ
@@ -40,26 +37,26 @@ abbrev pub held_channel : List ℕ → ℕ → Channel
 held_channel block n = record { opened = eqb (octet_in block n open_place) 0x01; receive = octet_in block n receive_place; send = octet_in block n send_place }
 
 -- a size that its number holds
-abbrev pub Sized : Written → Type 0
-Sized (Put n) = n < 2 ^ 16
-Sized (Unwritten r) = Unit {0}
+abbrev pub Sized : Result ℕ Refusal → Type 0
+Sized (Ok n) = n < 2 ^ 16
+Sized (Err r) = Unit {0}
 
 -- a total laid over its block, where there is a new one
-abbrev pub sum_laid : Added → List ℕ → List ℕ
-sum_laid (Sum s) block = laid (total_octets s) 0 block
-sum_laid (Unadded r) block = block
+abbrev pub sum_laid : Result ℤ Refusal → List ℕ → List ℕ
+sum_laid (Ok s) block = laid (total_octets s) 0 block
+sum_laid (Err r) block = block
 
-abbrev pub taken_laid : ℤ → Telegram → List ℕ → List ℕ
-taken_laid total (Increment code) block = laid (total_octets total) 0 block
-taken_laid total Repetition block = block
-taken_laid total OtherGroup block = block
-taken_laid total NoIncrement block = block
-taken_laid total (Refused r) block = block
+abbrev pub taken_laid : ℤ → Result Telegram Refusal → List ℕ → List ℕ
+taken_laid total (Ok (Increment code)) block = laid (total_octets total) 0 block
+taken_laid total (Ok Repetition) block = block
+taken_laid total (Ok OtherGroup) block = block
+taken_laid total (Ok NoIncrement) block = block
+taken_laid total (Err r) block = block
 
 -- whether the frame becomes the remembered one
-abbrev pub is_accepted : Telegram → Bool
-is_accepted (Increment code) = true
-is_accepted Repetition = true
-is_accepted OtherGroup = true
-is_accepted NoIncrement = true
-is_accepted (Refused r) = false
+abbrev pub is_accepted : Result Telegram Refusal → Bool
+is_accepted (Ok (Increment code)) = true
+is_accepted (Ok Repetition) = true
+is_accepted (Ok OtherGroup) = true
+is_accepted (Ok NoIncrement) = true
+is_accepted (Err r) = false

@@ -1,5 +1,5 @@
 -- What the tracer answers, as the numbers that cross the surface: include/klumdray.h says the same in its words.
-use Rattle.std.specs.Prelude.{ℕ, ◌+◌, ◌*◌, ◌%◌, ◌^◌, Bool, not, ◌&&◌, List, ◌∷◌, ◌≡◌, ltb, length}
+use Rattle.std.specs.Prelude.{ℕ, ◌+◌, ◌*◌, ◌%◌, ◌^◌, Bool, not, ◌&&◌, List, ◌∷◌, ◌≡◌, ltb, length, Result, Ok, Err, Option, Some, None}
 use Rattle.passing.specs.Answers.{passage_number}
 use Rattle.frame.specs.Order.{Test, first_of, answer_by, ◌gives◌}
 use Rattle.frame.specs.Refusals.{number}
@@ -9,19 +9,19 @@ use Rattle.site.specs.Stores.{Stores}
 use Rattle.tracer.specs.declared.Query.{Query}
 use Rattle.tracer.specs.Tracing.{trace_tests, traced_by, list_by}
 use Rattle.tracer.specs.Why.{why_of, why_tests}
-use Rattle.tracer.specs.declared.Explanation.TheVariants.{Reached, NotReached, Refused}
-use Rattle.tracer.specs.declared.Explanation.{Explanation}
 use Rattle.tracer.specs.declared.Traced.{Traced}
+use Rattle.frame.specs.declared.Refusal.{Refusal}
+use Rattle.tracer.specs.declared.Stop.{Stop}
 
 -- bits 0 to 7: the refusal's number or 0; 8 to 23: how many lines are listed; 24 to 39: the forwardings made
 unfoldable pub traced_number : Traced → ℕ
 traced_number t = t.number + t.lines % 65536 * 2 ^ 8 + t.forwardings % 65536 * 2 ^ 24
 
 -- bits 0 to 7: the refusal's number or 0; 8 to 15: the reason, 0 if the line is reached; 16 to 23: the coupler's line; 24: the direction of travel
-abbrev pub explanation_number : Explanation → ℕ
-explanation_number Reached = 0
-explanation_number (NotReached stop) = passage_number stop.reason * 2 ^ 8 + stop.coupler * 2 ^ 16 + stop.direction * 2 ^ 24
-explanation_number (Refused r) = number r
+abbrev pub explanation_number : Result (Option Stop) Refusal → ℕ
+explanation_number (Ok None) = 0
+explanation_number (Ok (Some stop)) = passage_number stop.reason * 2 ^ 8 + stop.coupler * 2 ^ 16 + stop.direction * 2 ^ 24
+explanation_number (Err r) = number r
 
 -- "start: the starting line, 00h to FFh", "destination: 0000h to FFFFh"; "kind: 0 individual, 1 group" and "count: .. 0 to 7" fit one octet:
 -- the trace inside, which takes no more, tests their ranges
@@ -43,5 +43,5 @@ abbrev pub why_through_tests : Stores → List ℕ → Query → ℕ → List Te
 why_through_tests st site q line = not (query_fits q && ltb line 256) gives OutOfRange ∷ why_tests st site q
 
 -- an explanation through the surface: the inner one
-unfoldable pub why_through : Stores → List ℕ → Query → ℕ → Explanation
-why_through st site q line = answer_by Refused (why_of st site q line) (first_of (why_through_tests st site q line))
+unfoldable pub why_through : Stores → List ℕ → Query → ℕ → Result (Option Stop) Refusal
+why_through st site q line = answer_by Err (why_of st site q line) (first_of (why_through_tests st site q line))

@@ -6,10 +6,10 @@ ghost use Rattle.klumdray.specs.Channels.{are_channels, with_octet, block_receiv
 ghost use Rattle.klumdray.specs.Stages.{channel_or_none, octet_in, held_channel};
 
 use crate::numbers;
-use cemi::{CemiAnswer, Message};
+use cemi::Message;
 use channels::Channel;
 use exchange::{Confirmed, Received};
-use frame::Written;
+use frame::Refusal;
 
 // Open, receive counter, send counter.
 const CHANNEL_SIZE: usize = 3;
@@ -66,23 +66,23 @@ fn put(block: &mut [u8], number: u8, place: u8, octet: u8)
     }
 }
 
-pub(crate) fn raise_received(answer: Received, channel: Channel, number: u8, block: &mut [u8])
+pub(crate) fn raise_received(answer: Result<Received, Refusal>, channel: Channel, number: u8, block: &mut [u8])
     ensures { block.new ≡ block_received answer channel number block.old }
 {
     match answer {
-        Received::Delivered(_) => put(block, number, 1, channels::raised(channel.receive)),
-        Received::Again => {}
-        Received::Refused(_) => {}
+        Ok(Received::Delivered(_)) => put(block, number, 1, channels::raised(channel.receive)),
+        Ok(Received::Again) => {}
+        Err(_) => {}
     }
 }
 
-pub(crate) fn raise_confirmed(answer: Confirmed, channel: Channel, number: u8, block: &mut [u8])
+pub(crate) fn raise_confirmed(answer: Result<Confirmed, Refusal>, channel: Channel, number: u8, block: &mut [u8])
     ensures { block.new ≡ block_confirmed answer channel number block.old }
 {
     match answer {
-        Confirmed::Raised => put(block, number, 2, channels::raised(channel.send)),
-        Confirmed::Kept => {}
-        Confirmed::Refused(_) => {}
+        Ok(Confirmed::Raised) => put(block, number, 2, channels::raised(channel.send)),
+        Ok(Confirmed::Kept) => {}
+        Err(_) => {}
     }
 }
 
@@ -93,7 +93,7 @@ pub(crate) fn send(
     message: Message,
     payload: &[u8],
     room: &mut [u8],
-) -> Written
+) -> Result<usize, Refusal>
     ensures { SentOn (held_channel block.now (channel_or_none channel)) (channel_or_none channel) message payload.now room.old result room.new }
 {
     let number = number_of(channel);
@@ -102,27 +102,27 @@ pub(crate) fn send(
 }
 
 // The message is the one that was handed out with this answer.
-pub(crate) fn of_received(answer: Received, message: &[u8]) -> u64
+pub(crate) fn of_received(answer: Result<Received, Refusal>, message: &[u8]) -> u64
     ensures { result ≡ received_number answer (length (delivered_payload answer message.now)) }
 {
     match answer {
-        Received::Delivered(request) => {
+        Ok(Received::Delivered(request)) => {
             let delivered = request.message;
-            let read = CemiAnswer::Frame(delivered);
+            let read = Ok(delivered);
             let payload = cemi::payload(read, message);
             numbers::of_cemi(read, payload.len())
         }
-        Received::Again => 0,
-        Received::Refused(refusal) => refusal.number() as u64,
+        Ok(Received::Again) => 0,
+        Err(refusal) => refusal.number() as u64,
     }
 }
 
-pub(crate) fn of_confirmed(answer: Confirmed) -> u32
+pub(crate) fn of_confirmed(answer: Result<Confirmed, Refusal>) -> u32
     ensures { result ≡ confirmed_number answer }
 {
     match answer {
-        Confirmed::Raised => 256,
-        Confirmed::Kept => 0,
-        Confirmed::Refused(refusal) => refusal.number() as u32,
+        Ok(Confirmed::Raised) => 256,
+        Ok(Confirmed::Kept) => 0,
+        Err(refusal) => refusal.number() as u32,
     }
 }

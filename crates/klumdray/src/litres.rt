@@ -4,8 +4,8 @@ ghost use Rattle.octets.specs.Room.{laid};
 ghost use Rattle.klumdray.specs.Litres.{in_bits, signed_of, value_number, coded_number, carried_number, total_in, total_octets, added_number, telegram_number};
 ghost use Rattle.klumdray.specs.Stages.{sum_laid, taken_laid, is_accepted};
 
-use leak::{Added, Carried, Coded, Value};
 use station::{Tally, Telegram};
+use frame::Refusal;
 
 // A signed number as its 64 bits of two's complement, and back.
 fn bits_of(number: i64) -> u64
@@ -28,33 +28,33 @@ fn signed_of(bits: u64) -> i64
     }
 }
 
-pub(crate) fn of_value(value: Value) -> u64
+pub(crate) fn of_value(value: Result<i32, Refusal>) -> u64
     ensures { result ≡ value_number value }
 {
     match value {
-        Value::Hundredths(hundredths) => {
+        Ok(hundredths) => {
             let bits = bits_of(hundredths as i64);
             bits % 4294967296 * 4294967296
         }
-        Value::Refused(refusal) => refusal.number() as u64,
+        Err(refusal) => refusal.number() as u64,
     }
 }
 
-pub(crate) fn of_coded(coded: Coded) -> u32
+pub(crate) fn of_coded(coded: Result<u16, Refusal>) -> u32
     ensures { result ≡ coded_number coded }
 {
     match coded {
-        Coded::Code(code) => code as u32 * 65536,
-        Coded::Refused(refusal) => refusal.number() as u32,
+        Ok(code) => code as u32 * 65536,
+        Err(refusal) => refusal.number() as u32,
     }
 }
 
-pub(crate) fn of_carried(carried: Carried) -> u32
+pub(crate) fn of_carried(carried: Option<u16>) -> u32
     ensures { result ≡ carried_number carried }
 {
     match carried {
-        Carried::Float(code) => 256 + code as u32 * 65536,
-        Carried::Nothing => 0,
+        Some(code) => 256 + code as u32 * 65536,
+        None => 0,
     }
 }
 
@@ -89,21 +89,21 @@ fn put_total(block: &mut [u8], total: i64)
     octets::lay(&eight, 0, block);
 }
 
-pub(crate) fn put_sum(added: Added, block: &mut [u8])
+pub(crate) fn put_sum(added: Result<i64, Refusal>, block: &mut [u8])
     ensures { block.new ≡ sum_laid added block.old }
 {
     match added {
-        Added::Sum(sum) => put_total(block, sum),
-        Added::Refused(_) => {}
+        Ok(sum) => put_total(block, sum),
+        Err(_) => {}
     }
 }
 
-pub(crate) fn of_added(added: Added) -> u32
+pub(crate) fn of_added(added: Result<i64, Refusal>) -> u32
     ensures { result ≡ added_number added }
 {
     match added {
-        Added::Sum(_) => 0,
-        Added::Refused(refusal) => refusal.number() as u32,
+        Ok(_) => 0,
+        Err(refusal) => refusal.number() as u32,
     }
 }
 
@@ -113,11 +113,11 @@ pub(crate) fn put_taken(taken: Tally, block: &mut [u8])
 {
     let telegram = taken.telegram;
     match telegram {
-        Telegram::Increment(_) => put_total(block, taken.total),
-        Telegram::Repetition => {}
-        Telegram::OtherGroup => {}
-        Telegram::NoIncrement => {}
-        Telegram::Refused(_) => {}
+        Ok(Telegram::Increment(_)) => put_total(block, taken.total),
+        Ok(Telegram::Repetition) => {}
+        Ok(Telegram::OtherGroup) => {}
+        Ok(Telegram::NoIncrement) => {}
+        Err(_) => {}
     }
 }
 
@@ -126,11 +126,11 @@ pub(crate) fn is_accepted(taken: Tally) -> bool
 {
     let telegram = taken.telegram;
     match telegram {
-        Telegram::Increment(_) => true,
-        Telegram::Repetition => true,
-        Telegram::OtherGroup => true,
-        Telegram::NoIncrement => true,
-        Telegram::Refused(_) => false,
+        Ok(Telegram::Increment(_)) => true,
+        Ok(Telegram::Repetition) => true,
+        Ok(Telegram::OtherGroup) => true,
+        Ok(Telegram::NoIncrement) => true,
+        Err(_) => false,
     }
 }
 
@@ -139,10 +139,10 @@ pub(crate) fn of_taken(taken: Tally) -> u32
 {
     let telegram = taken.telegram;
     match telegram {
-        Telegram::Increment(code) => 256 + code as u32 * 65536,
-        Telegram::Repetition => 512,
-        Telegram::OtherGroup => 768,
-        Telegram::NoIncrement => 1024,
-        Telegram::Refused(refusal) => refusal.number() as u32,
+        Ok(Telegram::Increment(code)) => 256 + code as u32 * 65536,
+        Ok(Telegram::Repetition) => 512,
+        Ok(Telegram::OtherGroup) => 768,
+        Ok(Telegram::NoIncrement) => 1024,
+        Err(refusal) => refusal.number() as u32,
     }
 }

@@ -7,10 +7,9 @@ ghost use Rattle.tunnelling.specs.Layout.{request_octets};
 ghost use Rattle.klumdray.specs.Numbers.{flags_of, meaning_number, tp1_number, code_number, message_number, cemi_number, are_flags, are_octets, are_words, are_marks, are_connected, meaning_from, message_from, acknowledgement_from, message_answer, acknowledged_number, written_number};
 ghost use Rattle.klumdray.specs.Stages.{Sized};
 
-use cemi::{CemiAnswer, Message};
-use frame::{Meaning, Written};
-use tp1::Tp1Answer;
-use tunnelling::{Acknowledgement, AcknowledgementAnswer, RequestAnswer};
+use cemi::Message;
+use frame::{Meaning, Refusal};
+use tunnelling::{Acknowledgement, Request};
 
 fn flags_of(meaning: Meaning) -> u8
     ensures { result ≡ flags_of meaning }
@@ -35,12 +34,12 @@ fn of_meaning(meaning: Meaning, payload: usize) -> u64
         + length * 281474976710656
 }
 
-pub(crate) fn of_tp1(answer: Tp1Answer, payload: usize) -> u64
+pub(crate) fn of_tp1(answer: Result<Meaning, Refusal>, payload: usize) -> u64
     ensures { result ≡ tp1_number answer payload }
 {
     match answer {
-        Tp1Answer::Frame(meaning) => of_meaning(meaning, payload),
-        Tp1Answer::Refused(refusal) => refusal.number() as u64,
+        Ok(meaning) => of_meaning(meaning, payload),
+        Err(refusal) => refusal.number() as u64,
     }
 }
 
@@ -64,38 +63,38 @@ fn of_message(message: Message, payload: usize) -> u64
     of_meaning(meaning, payload) + marks as u64 * 72057594037927936
 }
 
-pub(crate) fn of_cemi(answer: CemiAnswer, payload: usize) -> u64
+pub(crate) fn of_cemi(answer: Result<Message, Refusal>, payload: usize) -> u64
     ensures { result ≡ cemi_number answer payload }
 {
     match answer {
-        CemiAnswer::Frame(message) => of_message(message, payload),
-        CemiAnswer::Refused(refusal) => refusal.number() as u64,
+        Ok(message) => of_message(message, payload),
+        Err(refusal) => refusal.number() as u64,
     }
 }
 
 // What a tunnelling request's message is read as.
-pub(crate) fn message_answer(answer: RequestAnswer) -> CemiAnswer
+pub(crate) fn message_answer(answer: Result<Request, Refusal>) -> Result<Message, Refusal>
     ensures { result ≡ message_answer answer }
 {
     match answer {
-        RequestAnswer::Frame(request) => {
+        Ok(request) => {
             let message = request.message;
-            CemiAnswer::Frame(message)
+            Ok(message)
         }
-        RequestAnswer::Refused(refusal) => CemiAnswer::Refused(refusal),
+        Err(refusal) => Err(refusal),
     }
 }
 
-pub(crate) fn of_acknowledged(answer: AcknowledgementAnswer) -> u32
+pub(crate) fn of_acknowledged(answer: Result<Acknowledgement, Refusal>) -> u32
     ensures { result ≡ acknowledged_number answer }
 {
     match answer {
-        AcknowledgementAnswer::Frame(acknowledgement) => {
+        Ok(acknowledgement) => {
             acknowledgement.channel as u32 * 256
                 + acknowledgement.counter as u32 * 65536
                 + acknowledgement.status as u32 * 16777216
         }
-        AcknowledgementAnswer::Refused(refusal) => refusal.number() as u32,
+        Err(refusal) => refusal.number() as u32,
     }
 }
 
@@ -181,7 +180,7 @@ pub(crate) fn write_request(
     message: Message,
     payload: &[u8],
     room: &mut [u8],
-) -> Written
+) -> Result<usize, Refusal>
     ensures { Wrote (message_in_range All message (length payload.now)) (request_octets (channel % 256) (counter % 256) message payload.now) room.old result room.new }
 {
     let number = octet_of(channel);
@@ -199,12 +198,12 @@ pub(crate) fn acknowledgement_from(channel: u32, counter: u32, status: u32) -> A
     }
 }
 
-pub(crate) fn of_written(written: Written) -> u64
+pub(crate) fn of_written(written: Result<usize, Refusal>) -> u64
     requires { Sized written }
     ensures { result ≡ written_number written }
 {
     match written {
-        Written::Put(size) => size as u64 * 256,
-        Written::Refused(refusal) => refusal.number() as u64,
+        Ok(size) => size as u64 * 256,
+        Err(refusal) => refusal.number() as u64,
     }
 }

@@ -1,13 +1,13 @@
 // A caller's numbers as a query, and the tracer's answers as the numbers that cross the surface.
 ghost use Rattle.std.specs.Prelude.{◌≡◌, ◌%◌, ◌<◌};
-ghost use Rattle.tracer.specs.declared.Explanation.TheVariants.{NotReached};
 ghost use Rattle.tracer.specs.Query.{query_of};
 ghost use Rattle.passing.specs.Answers.{passage_number};
 ghost use Rattle.klumdray.specs.Traces.{query_fits, traced_number, explanation_number};
 
 use crate::numbers;
 use passing::Passage;
-use tracer::{Explanation, Query, Stop, Traced};
+use tracer::{Query, Stop, Traced};
+use frame::Refusal;
 
 pub(crate) fn query_fits(start: u32, kind: u32, destination: u32, count: u32) -> bool
     ensures { result ≡ query_fits (query_of start kind destination count) }
@@ -50,18 +50,18 @@ fn of_passage(passage: Passage) -> u32
 }
 
 fn of_stop(stop: Stop) -> u32
-    ensures { result ≡ explanation_number (NotReached stop) }
+    ensures { result ≡ explanation_number (Ok (Some stop)) }
 {
     let reason = stop.reason;
     of_passage(reason) * 256 + stop.coupler as u32 * 65536 + stop.direction as u32 * 16777216
 }
 
-pub(crate) fn of_explanation(explanation: Explanation) -> u32
+pub(crate) fn of_explanation(explanation: Result<Option<Stop>, Refusal>) -> u32
     ensures { result ≡ explanation_number explanation }
 {
     match explanation {
-        Explanation::Reached => 0,
-        Explanation::NotReached(stop) => of_stop(stop),
-        Explanation::Refused(refusal) => refusal.number() as u32,
+        Ok(None) => 0,
+        Ok(Some(stop)) => of_stop(stop),
+        Err(refusal) => refusal.number() as u32,
     }
 }

@@ -1,5 +1,6 @@
 -- What the verdict of the header's reader says of its tests; and header and tests are inverse: the header over octets that fill the
 -- datagram passes, of whichever service, and what passes is such a header.
+use Rattle.std.specs.Prelude.{Result, Ok}
 use Prim.Native.Nat.{ℕ, ◌+◌, ◌-◌, ◌≤◌}
 use mathlib.Core.Bool.{not}
 use mathlib.Core.List.{List, ◌∷◌, ◌++◌}
@@ -13,16 +14,15 @@ use Rattle.octets.specs.Octets.{octet_at, Octets}
 use Rattle.octets.specs.Word.{word_at, high, low}
 use Rattle.frame.proofs.Order.{passed-iff}
 use Rattle.frame.specs.Order.{first_of, NoneOf}
-use Rattle.frame.specs.declared.Verdict.TheVariants.{Fine}
-use Rattle.frame.specs.declared.Verdict.{Verdict}
 use Rattle.knxnetip.specs.Header.{header_of, is_other_header, is_other_service, is_other_length, header_tests, read_header}
+use Rattle.frame.specs.declared.Refusal.{Refusal}
 
 module _ (service : ℕ) (s : List ℕ) where
-  pub header-verdict : {v : Verdict} → read_header service s ≡ v → first_of (header_tests service s) ≡ v
+  pub header-verdict : {v : Result (Unit {0}) Refusal} → read_header service s ≡ v → first_of (header_tests service s) ≡ v
   unfolding read_header
   header-verdict e = e
 
-  pub header-least : read_header service s ≡ Fine → 6 ≤ length s
+  pub header-least : read_header service s ≡ Ok tt → 6 ≤ length s
   header-least e = ltb-false _ _ ((passed-iff (header_tests service s)).0 (header-verdict e)).0
 
 module _ (service : ℕ) where

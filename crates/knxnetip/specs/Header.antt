@@ -1,10 +1,10 @@
 -- Document 01, "Routing datagram: 06h, 10h, 0530h, total length (2), ..": the KNXnet/IP header, of whichever service is wanted.
-use Rattle.std.specs.Prelude.{ℕ, List, [], ◌∷◌, Bool, not, ◌&&◌, length, ltb, eqb}
+use Rattle.std.specs.Prelude.{ℕ, List, [], ◌∷◌, Bool, not, ◌&&◌, length, ltb, eqb, Result}
 use Rattle.octets.specs.Octets.{octet_at}
 use Rattle.octets.specs.Word.{word_at, high, low}
 use Rattle.frame.specs.declared.Refusal.TheVariants.{TooFew, OtherHeader, OtherService, OtherLength}
 use Rattle.frame.specs.Order.{Test, ◌gives◌, first_of}
-use Rattle.frame.specs.declared.Verdict.{Verdict}
+use Rattle.frame.specs.declared.Refusal.{Refusal}
 
 abbrev pub header_of : ℕ → ℕ → List ℕ
 header_of service total = 0x06 ∷ 0x10 ∷ high service ∷ low service ∷ high total ∷ low total ∷ []
@@ -30,5 +30,5 @@ header_tests service s =
     ∷ is_other_length s gives OtherLength
     ∷ []
 
-unfoldable pub read_header : ℕ → List ℕ → Verdict
+unfoldable pub read_header : ℕ → List ℕ → Result (Unit {0}) Refusal
 read_header service s = first_of (header_tests service s)

@@ -5,7 +5,7 @@ ghost use Rattle.std.specs.Prelude.{◌≡◌};
 ghost use Rattle.octets.specs.Room.{laid};
 ghost use Rattle.knxnetip.specs.Header.{header_of, is_other_header, is_other_service, is_other_length, read_header};
 
-use frame::{Refusal, Verdict};
+use frame::Refusal;
 
 fn is_other_header(octets: &[u8]) -> bool
     ensures { result ≡ is_other_header octets.now }
@@ -28,22 +28,22 @@ fn is_other_length(octets: &[u8]) -> bool
 }
 
 // The header of a datagram, told which service is wanted.
-pub fn read_header(octets: &[u8], service: u16) -> Verdict
+pub fn read_header(octets: &[u8], service: u16) -> Result<(), Refusal>
     ensures { result ≡ read_header service octets.now }
 {
     if octets.len() < 6 {
-        return Verdict::Refuse(Refusal::TooFew);
+        return Err(Refusal::TooFew);
     }
     if is_other_header(octets) {
-        return Verdict::Refuse(Refusal::OtherHeader);
+        return Err(Refusal::OtherHeader);
     }
     if is_other_service(octets, service) {
-        return Verdict::Refuse(Refusal::OtherService);
+        return Err(Refusal::OtherService);
     }
     if is_other_length(octets) {
-        return Verdict::Refuse(Refusal::OtherLength);
+        return Err(Refusal::OtherLength);
     }
-    Verdict::Fine
+    Ok(())
 }
 
 // Lays the header of a service over the front of a room.

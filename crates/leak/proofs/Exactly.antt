@@ -1,4 +1,5 @@
 -- What each call answers, by the one fact that decides it.
+use Rattle.std.specs.Prelude.{Ok, Err}
 use Prim.Native.Nat.{ℕ, ◌+◌, ◌*◌, ◌/◌, ◌%◌, ◌^◌, ◌<◌}
 use mathlib.Core.Bool.{true, false}
 use mathlib.Core.Path.{◌≡◌}
@@ -6,9 +7,6 @@ use native.Mathlib.Omega.{arith}
 use lib.IntN.{ℤ, pos, sub_ℕ, ◌+ℤ◌, ◌*ℤ◌}
 use borrow.Author.Tests.{eq-eqb, ne_eqb}
 use Rattle.frame.specs.declared.Refusal.TheVariants.{OutOfRange, Invalid, PastTotal}
-use Rattle.leak.specs.declared.Value.TheVariants.{Hundredths, Refused as Unread}
-use Rattle.leak.specs.declared.Coded.TheVariants.{Code, Refused as Unwritten}
-use Rattle.leak.specs.declared.Added.TheVariants.{Sum, Refused as Unadded}
 use Rattle.leak.specs.Float.{mantissa_of, hundredths_of}
 use Rattle.leak.specs.Reading.{read_code}
 use Rattle.leak.specs.Total.{in_total, add_to}
@@ -25,32 +23,32 @@ value-by-bits sign e low h k l =
     rw (x, y, z)
 
 module _ (code : ℕ) where
-  pub read-invalid : code ≡ 0x7FFF → read_code code ≡ Unread Invalid
+  pub read-invalid : code ≡ 0x7FFF → read_code code ≡ Err Invalid
   unfolding read_code
   read-invalid e = rw (eq-eqb code 0x7FFF e)
 
-  pub read-valid : (code ≡ 0x7FFF → ⊥) → read_code code ≡ Hundredths (hundredths_of code)
+  pub read-valid : (code ≡ 0x7FFF → ⊥) → read_code code ≡ Ok (hundredths_of code)
   unfolding read_code
   read-valid n = rw (ne_eqb code 0x7FFF n)
 
 module _ (z : ℤ) where
-  pub write-within : in_reach z ≡ true → write_code z ≡ Code (code_for z)
+  pub write-within : in_reach z ≡ true → write_code z ≡ Ok (code_for z)
   unfolding write_code
   write-within e = rw e
 
-  pub write-beyond : in_reach z ≡ false → write_code z ≡ Unwritten OutOfRange
+  pub write-beyond : in_reach z ≡ false → write_code z ≡ Err OutOfRange
   unfolding write_code
   write-beyond e = rw e
 
 module _ (total : ℤ) (code : ℕ) where
-  pub add-invalid : code ≡ 0x7FFF → add_to total code ≡ Unadded Invalid
+  pub add-invalid : code ≡ 0x7FFF → add_to total code ≡ Err Invalid
   unfolding add_to
   add-invalid e = rw (eq-eqb code 0x7FFF e)
 
-  pub add-past : (code ≡ 0x7FFF → ⊥) → in_total (total +ℤ hundredths_of code) ≡ false → add_to total code ≡ Unadded PastTotal
+  pub add-past : (code ≡ 0x7FFF → ⊥) → in_total (total +ℤ hundredths_of code) ≡ false → add_to total code ≡ Err PastTotal
   unfolding add_to
   add-past n e = rw (ne_eqb code 0x7FFF n, e)
 
-  pub add-within : (code ≡ 0x7FFF → ⊥) → in_total (total +ℤ hundredths_of code) ≡ true → add_to total code ≡ Sum (total +ℤ hundredths_of code)
+  pub add-within : (code ≡ 0x7FFF → ⊥) → in_total (total +ℤ hundredths_of code) ≡ true → add_to total code ≡ Ok (total +ℤ hundredths_of code)
   unfolding add_to
   add-within n e = rw (ne_eqb code 0x7FFF n, e)

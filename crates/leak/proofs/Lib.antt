@@ -12,4 +12,3 @@ pub mod Chosen
 pub mod Exactly
 pub mod Series
 pub mod Answers
-pub mod Apart

@@ -1,4 +1,5 @@
 -- A signed number of any width, taken apart by its sign into its size; and the writer's range, by the size.
+use Rattle.std.specs.Prelude.{Ok, Err}
 use Prim.Native.Nat.{ℕ, suc, ◌≤◌, ◌<◌}
 use mathlib.Core.Bool.{true, false}
 use mathlib.Core.Path.{◌≡◌, refl, sym, ap, ◌∙◌}
@@ -11,7 +12,6 @@ use mir.Facts.{to_z-of_z}
 use Rattle.octets.proofs.Truth.{never}
 use borrow.Author.Tests.{lt-leb, le-leb, le-ltb, ltb-true, ltb-false}
 use Rattle.frame.specs.declared.Refusal.TheVariants.{OutOfRange}
-use Rattle.leak.specs.declared.Coded.TheVariants.{Code, Refused}
 use Rattle.leak.specs.Writing.{write_code, code_for}
 use Rattle.leak.proofs.Codes.{sub-above}
 
@@ -39,24 +39,24 @@ module _ (w : Width) where
 
 -- the range's two ends
 module _ (a : ℕ) where
-  pub minus-refused : lt_z (negsuc a) (negsuc 67108863) ≡ true → write_code (negsuc a) ≡ Refused OutOfRange
+  pub minus-refused : lt_z (negsuc a) (negsuc 67108863) ≡ true → write_code (negsuc a) ≡ Err OutOfRange
   unfolding write_code
   minus-refused h = rw (lt-leb a 67108863 (ltb-true 67108863 a h))
 
   pub minus-below : lt_z (negsuc a) (negsuc 67108863) ≡ false → a < 67108864
   minus-below h = omega (arith, ltb-false 67108863 a h)
 
-  pub minus-written : lt_z (negsuc a) (negsuc 67108863) ≡ false → write_code (negsuc a) ≡ Code (code_for (negsuc a))
+  pub minus-written : lt_z (negsuc a) (negsuc 67108863) ≡ false → write_code (negsuc a) ≡ Ok (code_for (negsuc a))
   unfolding write_code
   minus-written h = rw (le-leb a 67108863 (ltb-false 67108863 a h))
 
-  pub plus-refused : lt_z (pos 67043328) (pos a) ≡ true → write_code (pos a) ≡ Refused OutOfRange
+  pub plus-refused : lt_z (pos 67043328) (pos a) ≡ true → write_code (pos a) ≡ Err OutOfRange
   unfolding write_code
   plus-refused h = rw (lt-leb a 67043328 (ltb-true 67043328 a h))
 
   pub plus-most : lt_z (pos 67043328) (pos a) ≡ false → a ≤ 67043328
   plus-most h = ltb-false 67043328 a h
 
-  pub plus-written : lt_z (pos 67043328) (pos a) ≡ false → write_code (pos a) ≡ Code (code_for (pos a))
+  pub plus-written : lt_z (pos 67043328) (pos a) ≡ false → write_code (pos a) ≡ Ok (code_for (pos a))
   unfolding write_code
   plus-written h = rw (le-leb a 67043328 (ltb-false 67043328 a h))

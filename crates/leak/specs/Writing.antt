@@ -1,11 +1,10 @@
 -- R-4: "The writer takes hundredths from -67,108,864 to 67,043,328, else refuses (14), and uses the smallest E for which the nearest M, ties
 -- to even M, fits".
-use Rattle.std.specs.Prelude.{ℕ, zero, suc, ◌+◌, ◌-◌, ◌*◌, ◌/◌, ◌%◌, ◌^◌, List, [], ◌∷◌, Bool, cond, not, ◌&&◌, ltb, ℤ, pos, negsuc, neg_ℤ}
+use Rattle.std.specs.Prelude.{ℕ, zero, suc, ◌+◌, ◌-◌, ◌*◌, ◌/◌, ◌%◌, ◌^◌, List, [], ◌∷◌, Bool, cond, not, ◌&&◌, ltb, ℤ, pos, negsuc, neg_ℤ, Result, Ok, Err}
 use Rattle.std.specs.Int.Signed.{le_z}
 use Rattle.frame.specs.declared.Refusal.TheVariants.{OutOfRange}
 use Rattle.frame.specs.Order.{Test, ◌gives◌, first_of, answer_by}
-use Rattle.leak.specs.declared.Coded.{Coded}
-use Rattle.leak.specs.declared.Coded.TheVariants.{Code, Refused}
+use Rattle.frame.specs.declared.Refusal.{Refusal}
 
 -- a / b to the nearest whole number, a tie to the even one
 unfoldable pub nearest_to : ℕ → ℕ → ℕ
@@ -44,5 +43,5 @@ in_reach z = le_z (negsuc 67108863) z && le_z z (pos 67043328)
 abbrev pub write_tests : ℤ → List Test
 write_tests z = not (in_reach z) gives OutOfRange ∷ []
 
-unfoldable pub write_code : ℤ → Coded
-write_code z = answer_by Refused (Code (code_for z)) (first_of (write_tests z))
+unfoldable pub write_code : ℤ → Result ℕ Refusal
+write_code z = answer_by Err (Ok (code_for z)) (first_of (write_tests z))

@@ -13,100 +13,72 @@ ghost use Rattle.leak.specs.Total.{add_to};
 
 use frame::Refusal;
 
-// "the signed number of hundredths that the two octets stand for"
-#[derive(Clone, Copy)]
-pub enum Value {
-    Hundredths(i32),
-    Refused(Refusal),
-}
-
-// The two octets as one number, high octet first.
-#[derive(Clone, Copy)]
-pub enum Coded {
-    Code(u16),
-    Refused(Refusal),
-}
-
-// What a payload carries: a two-octet float, or no increment.
-#[derive(Clone, Copy)]
-pub enum Carried {
-    Float(u16),
-    Nothing,
-}
-
-// The total with the increment, or why it stays as it was.
-#[derive(Clone, Copy)]
-pub enum Added {
-    Sum(i64),
-    Refused(Refusal),
-}
-
 // "7FFFh is invalid and refused (23)"
-pub fn read(code: u16) -> Value
+pub fn read(code: u16) -> Result<i32, Refusal>
     ensures { result ≡ read_code code }
 {
     if code == 0x7FFF {
-        Value::Refused(Refusal::Invalid)
+        Err(Refusal::Invalid)
     } else {
-        Value::Hundredths(reading::hundredths(code))
+        Ok(reading::hundredths(code))
     }
 }
 
 // The same of the octets themselves, of which there have to be two.
-pub fn read_octets(octets: &[u8]) -> Value
+pub fn read_octets(octets: &[u8]) -> Result<i32, Refusal>
     ensures { result ≡ read_octets octets.now }
 {
     if octets.len() < 2 {
-        return Value::Refused(Refusal::TooFew);
+        return Err(Refusal::TooFew);
     }
     if 2 < octets.len() {
-        return Value::Refused(Refusal::LeftOver);
+        return Err(Refusal::LeftOver);
     }
     read(octets::word_at(octets, 0))
 }
 
 // "The writer takes hundredths from -67,108,864 to 67,043,328, else refuses (14)"
-pub fn write(hundredths: i64) -> Coded
+pub fn write(hundredths: i64) -> Result<u16, Refusal>
     ensures { result ≡ write_code hundredths }
 {
     if hundredths < 0 {
         if hundredths < -67108864 {
-            Coded::Refused(Refusal::OutOfRange)
+            Err(Refusal::OutOfRange)
         } else {
-            Coded::Code(writing::code_minus((-1 - hundredths) as u32))
+            Ok(writing::code_minus((-1 - hundredths) as u32))
         }
     } else if 67043328 < hundredths {
-        Coded::Refused(Refusal::OutOfRange)
+        Err(Refusal::OutOfRange)
     } else {
-        Coded::Code(writing::code_plus(hundredths as u32))
+        Ok(writing::code_plus(hundredths as u32))
     }
 }
 
 // A payload, from TPCI on, is an increment if it writes a two-octet float to a group.
-pub fn increment(payload: &[u8]) -> Carried
+pub fn increment(payload: &[u8]) -> Option<u16>
     ensures { result ≡ increment_in payload.now }
 {
     let written = (octets::octet(payload, 0) == 0x00) & (octets::octet(payload, 1) == 0x80);
     if written & (payload.len() == 4) {
-        Carried::Float(octets::word_at(payload, 2))
+        Some(octets::word_at(payload, 2))
     } else {
-        Carried::Nothing
+        None
     }
 }
 
 // "a sum past the range is refused (24) and the total stays"
-pub fn add(total: i64, code: u16) -> Added
+pub fn add(total: i64, code: u16) -> Result<i64, Refusal>
     ensures { result ≡ add_to total code }
 {
     if code == 0x7FFF {
-        Added::Refused(Refusal::Invalid)
+        Err(Refusal::Invalid)
     } else {
         let value = reading::hundredths(code) as i64;
         if adding::stays(total, value) {
             let sum = total + value;
-            Added::Sum(sum)
+            Ok(sum)
         } else {
-            Added::Refused(Refusal::PastTotal)
+            Err(Refusal::PastTotal)
         }
     }
 }

@@ -2,6 +2,7 @@
 -- check nothing beforehand. A refused call writes to no buffer and changes no memory." That every call ends, and asks nothing, is in
 -- Determined: `free` of each `-stated`, and the proofs of the functions themselves. Here: which answer or refusal, by its number and values,
 -- and what a refusal leaves.
+use Rattle.std.specs.Prelude.{Result, Ok, Err}
 use Prim.Native.Nat.{ℕ, ◌≤◌}
 use mathlib.Core.Bool.{Bool}
 use mathlib.Core.List.{List, [], ◌∷◌, ◌++◌}
@@ -13,12 +14,9 @@ use Rattle.cemi.specs.declared.Codes.{Codes}
 use Rattle.frame.proofs.Numbers.{number-listed, number-not-22, number-some, number-apart}
 use Rattle.frame.specs.Answers.{Numbered, accepted, refused, meaning_values, written_numbered, verdict_numbered}
 use Rattle.frame.specs.Order.{Test, first_of, answer_by}
-use Rattle.frame.specs.declared.Verdict.TheVariants.{Fine, Refuse}
-use Rattle.frame.specs.declared.Verdict.{Verdict}
 use Rattle.frame.specs.Refusals.{number, last_number}
 use Rattle.frame.specs.Writing.{write_tests, written, Wrote}
 use Rattle.frame.specs.declared.Refusal.{Refusal}
-use Rattle.frame.specs.declared.Written.{Written}
 use Rattle.octets.specs.Octets.{octet_at}
 use Rattle.octets.specs.Room.{over}
 use Rattle.knxnetip.specs.Header.{header_tests, read_header}
@@ -36,12 +34,6 @@ use Rattle.tracer.specs.declared.Query.{Query}
 use Rattle.tracer.specs.Tracing.{trace_tests, traced_by, list_by, DidTrace}
 use Rattle.tracer.specs.Why.{why_of, why_tests, answer_why}
 use Rattle.tracer.specs.declared.Traced.{Traced}
-use Rattle.frame.specs.declared.Written.TheVariants.{Put, Refused as Unwritten}
-use Rattle.tp1.specs.declared.Tp1Answer.TheVariants.{Frame as Tp1-frame, Refused as Tp1-refused}
-use Rattle.cemi.specs.declared.CemiAnswer.TheVariants.{Frame as Cemi-frame, Refused as Cemi-refused}
-use Rattle.tunnelling.specs.declared.RequestAnswer.TheVariants.{Frame as Request-frame, Refused as Request-refused}
-use Rattle.tunnelling.specs.declared.AcknowledgementAnswer.TheVariants.{Frame as Acknowledgement-frame, Refused as Acknowledgement-refused}
-use Rattle.tracer.specs.declared.Explanation.TheVariants.{Refused as Unexplained}
 use Rattle.promises.proofs.Ends.{Ends, EndsNumbered, ends_by}
 
 -- the numbers of refusals are the table's, 1 to the last but for 22, each stands for one, and 0 for none
@@ -74,27 +66,27 @@ reader-by refusal answer numbered parts values a r none ts = record {
   empty = go (first_of ts);
 }
   where
-    go : (v : Verdict) → ((numbered (answer_by refusal answer v)).number ≡ 0 → ⊥) → AllEmpty (parts (answer_by refusal answer v))
-    go Fine n = absurd (n (ap (λ (x : Numbered). x.number) a))
-    go (Refuse q) n = none q
+    go : (v : Result (Unit {0}) Refusal) → ((numbered (answer_by refusal answer v)).number ≡ 0 → ⊥) → AllEmpty (parts (answer_by refusal answer v))
+    go (Ok _) n = absurd (n (ap (λ (x : Numbered). x.number) a))
+    go (Err q) n = none q
 
 pub tp1-ends : (s : List ℕ) → ReaderEnds (meaning_values (meaning_in s)) (tp1_tests s) (tp1_numbered (read_tp1 s)) (tp1_payload (read_tp1 s) s ∷ [])
 unfolding read_tp1
-tp1-ends s = reader-by Tp1-refused (Tp1-frame (meaning_in s)) tp1_numbered (λ a. tp1_payload a s ∷ []) (meaning_values (meaning_in s)) refl (λ r. refl) (λ r. (refl, tt)) (tp1_tests s)
+tp1-ends s = reader-by Err (Ok (meaning_in s)) tp1_numbered (λ a. tp1_payload a s ∷ []) (meaning_values (meaning_in s)) refl (λ r. refl) (λ r. (refl, tt)) (tp1_tests s)
 
 pub cemi-ends : (codes : Codes) (s : List ℕ)
     → ReaderEnds (message_values (message_in (octet_at s 0) (body s))) (cemi_tests codes s) (cemi_numbered (read_cemi codes s)) (payload_in (read_cemi codes s) s ∷ information_in (read_cemi codes s) s ∷ [])
 unfolding read_cemi
 cemi-ends codes s =
     let x = message_in (octet_at s 0) (body s) in
-    reader-by Cemi-refused (Cemi-frame x) cemi_numbered (λ a. payload_in a s ∷ information_in a s ∷ []) (message_values x) refl (λ r. refl) (λ r. (refl, (refl, tt))) (cemi_tests codes s)
+    reader-by Err (Ok x) cemi_numbered (λ a. payload_in a s ∷ information_in a s ∷ []) (message_values x) refl (λ r. refl) (λ r. (refl, (refl, tt))) (cemi_tests codes s)
 
 pub routing-ends : (s : List ℕ)
     → ReaderEnds (message_values (message_in (octet_at (message s) 0) (body (message s)))) (routing_tests s) (cemi_numbered (read_routing s)) (routed_payload (read_routing s) s ∷ routed_information (read_routing s) s ∷ [])
 unfolding read_routing
 routing-ends s =
     let x = message_in (octet_at (message s) 0) (body (message s)) in
-    reader-by Cemi-refused (Cemi-frame x) cemi_numbered (λ a. routed_payload a s ∷ routed_information a s ∷ []) (message_values x) refl (λ r. refl) (λ r. (refl, (refl, tt))) (routing_tests s)
+    reader-by Err (Ok x) cemi_numbered (λ a. routed_payload a s ∷ routed_information a s ∷ []) (message_values x) refl (λ r. refl) (λ r. (refl, (refl, tt))) (routing_tests s)
 
 -- a header, of whichever service is wanted
 pub header-ends : (service : ℕ) (s : List ℕ) → EndsNumbered [] (header_tests service s) (verdict_numbered (read_header service s))
@@ -111,38 +103,38 @@ connection-ends service s = ends_by refused (accepted []) verdict_numbered refl 
 pub request-ends : (s : List ℕ) → ReaderEnds (request_values (request_in s)) (request_tests s) (request_numbered (read_request s)) (request_message (read_request s) s ∷ [])
 unfolding read_request
 request-ends s =
-    reader-by Request-refused (Request-frame (request_in s)) request_numbered (λ a. request_message a s ∷ []) (request_values (request_in s)) refl (λ r. refl) (λ r. (refl, tt)) (request_tests s)
+    reader-by Err (Ok (request_in s)) request_numbered (λ a. request_message a s ∷ []) (request_values (request_in s)) refl (λ r. refl) (λ r. (refl, tt)) (request_tests s)
 
 -- an acknowledgement: "for an acknowledgement 5 comes last"; it has no parts
 pub acknowledgement-ends : (s : List ℕ) → ReaderEnds (acknowledgement_values (acknowledgement_in s)) (acknowledgement_tests s) (acknowledgement_numbered (read_acknowledgement s)) []
 unfolding read_acknowledgement
 acknowledgement-ends s =
-    reader-by Acknowledgement-refused (Acknowledgement-frame (acknowledgement_in s)) acknowledgement_numbered (λ a. []) (acknowledgement_values (acknowledgement_in s)) refl (λ r. refl) (λ r. tt) (acknowledgement_tests s)
+    reader-by Err (Ok (acknowledgement_in s)) acknowledgement_numbered (λ a. []) (acknowledgement_values (acknowledgement_in s)) refl (λ r. refl) (λ r. tt) (acknowledgement_tests s)
 
 -- the writers: whatever the numbers, the payload and the room; a format gives its test of the numbers and its octets
 
-pub record WriterEnds (ranged : Bool) (octets room : List ℕ) (answer : Written) (after : List ℕ) : Type 0 where
+pub record WriterEnds (ranged : Bool) (octets room : List ℕ) (answer : Result ℕ Refusal) (after : List ℕ) : Type 0 where
   -- "14 .., then 13, exactly when the room is below the written size"; otherwise 0 and the written size
   pub numbered : EndsNumbered (length octets ∷ []) (write_tests ranged octets room) (written_numbered answer)
   -- the octets at the front of the room, "octets behind it stay"
   pub writes : (written_numbered answer).number ≡ 0 → after ≡ octets ++ drop (length octets) room
 
 module _ (ranged : Bool) (octets room after : List ℕ) where
-  pub writer-ends : (answer : Written) → Wrote ranged octets room answer after → WriterEnds ranged octets room answer after
+  pub writer-ends : (answer : Result ℕ Refusal) → Wrote ranged octets room answer after → WriterEnds ranged octets room answer after
   unfolding written
   writer-ends answer w = record {
-    numbered = rw w.answered (ends_by refused (accepted (length octets ∷ [])) (λ v. written_numbered (answer_by Unwritten (Put (length octets)) v)) refl (λ r. refl) (write_tests ranged octets room));
+    numbered = rw w.answered (ends_by refused (accepted (length octets ∷ [])) (λ v. written_numbered (answer_by Err (Ok (length octets)) v)) refl (λ r. refl) (write_tests ranged octets room));
     writes = go answer w;
   }
     where
-      go : (a : Written) → Wrote ranged octets room a after → (written_numbered a).number ≡ 0 → after ≡ octets ++ drop (length octets) room
-      go (Put n) w z = w.left
-      go (Unwritten r) w z = absurd (zero-is-none r z)
+      go : (a : Result ℕ Refusal) → Wrote ranged octets room a after → (written_numbered a).number ≡ 0 → after ≡ octets ++ drop (length octets) room
+      go (Ok n) w z = w.left
+      go (Err r) w z = absurd (zero-is-none r z)
 
   -- "A refused call writes to no buffer and changes no memory."
-  pub writer-refused : (answer : Written) → Wrote ranged octets room answer after → ((written_numbered answer).number ≡ 0 → ⊥) → after ≡ room
-  writer-refused (Put n) w z = absurd (z refl)
-  writer-refused (Unwritten r) w z = w.left
+  pub writer-refused : (answer : Result ℕ Refusal) → Wrote ranged octets room answer after → ((written_numbered answer).number ≡ 0 → ⊥) → after ≡ room
+  writer-refused (Ok n) w z = absurd (z refl)
+  writer-refused (Err r) w z = w.left
 
 -- a site with its stores: "well-formed exactly if it and its stores draw none of 15 to 18"
 pub site-ends : (st : Stores) (site : List ℕ) → EndsNumbered [] (site_tests st site) (verdict_numbered (first_of (site_tests st site)))
@@ -163,17 +155,17 @@ module _ (st : Stores) (site : List ℕ) (q : Query) (room room' : List ℕ) (an
   pub trace-refused : (answer.number ≡ 0 → ⊥) → (room' ≡ room) × ((answer.lines ≡ 0) × (answer.forwardings ≡ 0))
   trace-refused n = go (first_of (trace_tests st site q (length room))) refl
     where
-      go : (v : Verdict) → first_of (trace_tests st site q (length room)) ≡ v → (room' ≡ room) × ((answer.lines ≡ 0) × (answer.forwardings ≡ 0))
-      go Fine e = absurd (n (ap (λ (u : Traced). u.number) (d.answered ∙ ap (traced_by st site q) e)))
-      go (Refuse r) e =
-          let a : answer ≡ traced_by st site q (Refuse r) = d.answered ∙ ap (traced_by st site q) e in
-          (d.left ∙ ap (λ (v : Verdict). over (list_by st site q v) room) e, (ap (λ (u : Traced). u.lines) a, ap (λ (u : Traced). u.forwardings) a))
+      go : (v : Result (Unit {0}) Refusal) → first_of (trace_tests st site q (length room)) ≡ v → (room' ≡ room) × ((answer.lines ≡ 0) × (answer.forwardings ≡ 0))
+      go (Ok _) e = absurd (n (ap (λ (u : Traced). u.number) (d.answered ∙ ap (traced_by st site q) e)))
+      go (Err r) e =
+          let a : answer ≡ traced_by st site q (Err r) = d.answered ∙ ap (traced_by st site q) e in
+          (d.left ∙ ap (λ (v : Result (Unit {0}) Refusal). over (list_by st site q v) room) e, (ap (λ (u : Traced). u.lines) a, ap (λ (u : Traced). u.forwardings) a))
 
 -- its explanation: nothing of a line that is reached; otherwise the reason's number, the coupler's line and the direction of travel
 pub why-ends : (st : Stores) (site : List ℕ) (q : Query) (line : ℕ) → EndsNumbered (explanation_numbered (why_of st site q line)).values (why_tests st site q) (explanation_numbered (answer_why st site q line))
 unfolding answer_why
 why-ends st site q line =
-    ends_by refused (accepted (explanation_numbered (why_of st site q line)).values) (λ v. explanation_numbered (answer_by Unexplained (why_of st site q line) v))
+    ends_by refused (accepted (explanation_numbered (why_of st site q line)).values) (λ v. explanation_numbered (answer_by Err (why_of st site q line) v))
     (why-answers st site q line) (λ r. refl) (why_tests st site q)
 
 -- a reason that is given has one of the numbers 1 to 7

@@ -1,6 +1,7 @@
 -- Demand 3: the tracer lists exactly the lines for which every coupler on the path from the starting line is fitted and lets the telegram
 -- pass in its direction of travel, and the count c is 7 or the distance d at most c; each once, in rising order, with count on arrival and
 -- couplers crossed. It speaks of "every well-formed site, every query with kind and count in range, and every room of 768 or more".
+use Rattle.std.specs.Prelude.{Result, Ok, Err, Option, Some, None}
 use Prim.Native.Nat.{ℕ, ◌+◌, ◌-◌, ◌*◌, ◌≤◌, ◌<◌}
 use mathlib.Core.Bool.{true, false}
 use mathlib.Core.List.{List, [], ◌∷◌, ◌++◌}
@@ -19,8 +20,6 @@ use Rattle.frame.proofs.Numbers.{number-some}
 use Rattle.frame.proofs.Order.{passed-iff}
 use Rattle.frame.specs.Answers.{Numbered, accepted}
 use Rattle.frame.specs.Order.{first_of, answer_by, NoneOf}
-use Rattle.frame.specs.declared.Verdict.TheVariants.{Fine}
-use Rattle.frame.specs.declared.Verdict.{Verdict}
 use Rattle.octets.specs.Octets.{Octets}
 use Rattle.octets.specs.Room.{over}
 use Rattle.site.proofs.RecordCount.{site-most}
@@ -41,9 +40,9 @@ use Rattle.tracer.specs.declared.Query.{Query}
 use Rattle.tracer.specs.Query.{is_query}
 use Rattle.tracer.specs.Tracing.{trace_tests, traced_by, list_by, DidTrace}
 use Rattle.tracer.specs.Why.{why_of, why_tests, answer_why}
-use Rattle.tracer.specs.declared.Explanation.TheVariants.{Reached, NotReached, Refused}
-use Rattle.tracer.specs.declared.Explanation.{Explanation}
 use Rattle.tracer.specs.declared.Traced.{Traced}
+use Rattle.frame.specs.declared.Refusal.{Refusal}
+use Rattle.tracer.specs.declared.Stop.{Stop}
 
 -- "every coupler on the path from the starting line is fitted and lets the telegram pass in its direction of travel, and the count c is 7 or
 -- the distance d at most c"
@@ -83,8 +82,8 @@ signs : (st : Stores) (site : List ℕ) (q : Query) (room room' : List ℕ) (ans
     → DidTrace st site q room answer room' → Signed st site q room answer room'
 signs st site q room room' answer w a b h d =
     let ts = trace_tests st site q (length room) in
-    let v : first_of ts ≡ Fine = (passed-iff ts).1 (rw a refl, (le-ltb (length room) 768 h, w)) in
-    let t : answer ≡ traced_by st site q Fine = d.answered ∙ ap (traced_by st site q) v in
+    let v : first_of ts ≡ (Ok tt) = (passed-iff ts).1 (rw a refl, (le-ltb (length room) 768 h, w)) in
+    let t : answer ≡ traced_by st site q (Ok tt) = d.answered ∙ ap (traced_by st site q) v in
     let ls = lines_on st site q in
     let n : answer.lines ≡ lines_listed st site q = ap (λ (u : Traced). u.lines) t in
     let c : answer.lines ≡ length ls = n ∙ lines-count st site q in
@@ -92,7 +91,7 @@ signs st site q room room' answer w a b h d =
     let size : length (listed st site q) ≡ 3 * answer.lines = omega (arith, trace-three-each st site q, n) in
     let e : room' ≡ octets_of (line_octets q) ls ++ rest =
     d.left
-    ∙ ap (λ (x : Verdict). over (list_by st site q x) room) v
+    ∙ ap (λ (x : Result (Unit {0}) Refusal). over (list_by st site q x) room) v
     ∙ ap (λ (k : ℕ). listed st site q ++ drop k room) size
     ∙ ap (λ (l : List ℕ). l ++ rest) (lines-octets st site q) in
     let x = listed_at q.start ls ((lines_are st site q q.start).1 (b, start-reachable st site q)) (line_octets q) (λ n. refl) rest in
@@ -165,12 +164,12 @@ pub record Stops (st : Stores) (site : List ℕ) (q : Query) (line : ℕ) (answe
 -- in a well-formed site, and with kind and count in range, nothing is refused
 explained : (st : Stores) (site : List ℕ) (q : Query) → NoneOf (site_tests st site) → is_query q ≡ true → (line : ℕ) → answer_why st site q line ≡ why_of st site q line
 unfolding answer_why
-explained st site q w a line = ap (answer_by Refused (why_of st site q line)) ((passed-iff (why_tests st site q)).1 (rw a refl, w))
+explained st site q w a line = ap (answer_by Err (why_of st site q line)) ((passed-iff (why_tests st site q)).1 (rw a refl, w))
 
-no-values : (x : Explanation) → explanation_numbered x ≡ accepted [] → x ≡ Reached
-no-values Reached e = refl
-no-values (NotReached stop) e = absurd (omega (arith, ap (λ (n : Numbered). length n.values) e))
-no-values (Refused r) e = absurd (number-some r (ap (λ (n : Numbered). n.number) e))
+no-values : (x : Result (Option Stop) Refusal) → explanation_numbered x ≡ accepted [] → x ≡ Ok None
+no-values (Ok None) e = refl
+no-values (Ok (Some stop)) e = absurd (omega (arith, ap (λ (n : Numbered). length n.values) e))
+no-values (Err r) e = absurd (number-some r (ap (λ (n : Numbered). n.number) e))
 
 count_most : (q : Query) → is_query q ≡ true → q.count ≤ 7
 count_most q a = leb-true q.count 7 (and-true (leb q.kind 1) (leb q.count 7) a).1
@@ -201,7 +200,7 @@ stopped-there st site q w a line n =
       passed = s.stops.0;
       lasting = (lasts-iff q.count (length s.ahead)).0 (rw j at s.stops.1.0);
       stopped = rw j at s.stops.1.1;
-      told = ap explanation_numbered (explained st site q w a line ∙ x.1.0 ∙ ap NotReached (s.told ∙ ap (stop_of st site q s.here) j));
+      told = ap explanation_numbered (explained st site q w a line ∙ x.1.0 ∙ ap (Ok (Some (s.told ∙ ap (stop_of st site q s.here) j))));
     }
 
 -- nothing is left out here either

@@ -1,6 +1,7 @@
 -- The numbers that a C caller gives, each with the range that include/klumdray.h says: "none is cut on its way, and one outside its range is
 -- refused". Each call that takes numbers answers 14 exactly if one of them is outside, and has then written nothing. A step has its 14 in its
 -- place of the order. The contracts' tests, which are divided between the surface and the calls inside, come to these ranges.
+use Rattle.std.specs.Prelude.{Result, Ok, Err, Option}
 use Prim.Native.Nat.{ℕ, suc, ◌*◌, ◌≤◌, ◌<◌}
 use mathlib.Core.Bool.{Bool, true, false, cond, not, ◌&&◌, ◌||◌}
 use mathlib.Core.List.{List, [], ◌∷◌}
@@ -21,7 +22,7 @@ use Rattle.coupler.specs.Step.{heard, nothing}
 use Rattle.channels.specs.Table.{many, channel_at}
 use Rattle.channels.specs.declared.Channel.{Channel}
 use Rattle.exchange.specs.Sending.{sent_by}
-use Rattle.frame.proofs.Apart.{refuse-one, put_refused, unwritten-one}
+use Rattle.frame.proofs.Apart.{err-ok, err-one}
 use Rattle.frame.proofs.Numbers.{number-some}
 use Rattle.frame.proofs.Order.{gives_not, never-given, chose-refused, refusal-once}
 use Rattle.frame.proofs.Valid.{Ranges, ranges-of, ranged}
@@ -33,7 +34,6 @@ use Rattle.frame.specs.Valid.{in_range}
 use Rattle.frame.specs.declared.Meaning.{Meaning}
 use Rattle.frame.specs.declared.Refusal.{Refusal}
 use Rattle.frame.specs.declared.Refusal.TheVariants.{WrongSetting, NoTable, SmallRoom, OutOfRange, NotOpen}
-use Rattle.frame.specs.declared.Verdict.TheVariants.{Refuse}
 use Rattle.klumdray.proofs.BlockLaws.{unsided, unsided-heard}
 use Rattle.klumdray.proofs.Telling.{number-alone}
 use Rattle.klumdray.specs.Block.{codes_in, coupler_set, lent_right, heard_through, SteppedThrough}
@@ -51,14 +51,12 @@ use Rattle.tracer.proofs.Answers.{why-answers}
 use Rattle.tracer.specs.Answers.{explanation_numbered}
 use Rattle.tracer.specs.Query.{query_of, is_query}
 use Rattle.tracer.specs.Why.{why_of}
-use Rattle.tracer.specs.declared.Explanation.{Explanation}
 use Rattle.tracer.specs.declared.Query.{Query}
-use Rattle.frame.specs.declared.Written.TheVariants.{Put, Refused as Unwritten}
-use Rattle.tracer.specs.declared.Explanation.TheVariants.{Refused as Unexplained}
 use Rattle.tunnelling.specs.Layout.{request_octets, acknowledgement_octets}
 use Rattle.promises.proofs.Step.{refused-answer}
 use Rattle.promises.proofs.SurfaceTunnelling.{request-write-back, ack-write-back, send-back, send-refused-stays}
 use Rattle.promises.proofs.Surface.{WritesBack, tp1-write-back, cemi-write-back, routing-write-back, step-refused-stays, trace-back, trace-refused-stays, why-back}
+use Rattle.tracer.specs.declared.Stop.{Stop}
 
 infix 70 ◌from◌to◌
 -- a number that is given, and the lowest and the highest of its range
@@ -155,10 +153,10 @@ before true false m a b = ((λ e. never (sym e)), λ x. never (sym (b.1 x.1)))
 before false f m a b = ((λ e. never (sym e)), λ x. never (sym (a.1 x.0)))
 
 -- 14 stands first in the order of sending, and nowhere else
-send-unranged : (ranged : Bool) (c : Channel) (octets : List ℕ) (room : ℕ) → sent_by ranged c octets room ≡ Unwritten OutOfRange ↔ (ranged ≡ false)
+send-unranged : (ranged : Bool) (c : Channel) (octets : List ℕ) (room : ℕ) → sent_by ranged c octets room ≡ Err OutOfRange ↔ (ranged ≡ false)
 unfolding sent_by
 send-unranged ranged c octets room =
-    let w = refusal-once Unwritten (λ q r. unwritten-one) [] (not c.opened gives NotOpen ∷ ltb room (length octets) gives SmallRoom ∷ []) (not ranged) (Put (length octets)) OutOfRange put_refused refl refl in
+    let w = refusal-once Err (λ q r. err-one) [] (not c.opened gives NotOpen ∷ ltb room (length octets) gives SmallRoom ∷ []) (not ranged) (Ok (length octets)) OutOfRange err-ok refl refl in
     ((λ e. not-true ranged (w.0 e).1), λ e. w.1 (tt, ap not e))
 
 module _ (extended first priority source group destination count : ℕ) where
@@ -282,7 +280,7 @@ query_numbers start kind destination count =
     ∷ []
 
 -- 14 stands twice at the head of their orders and nowhere behind
-first_two : (fits query : Bool) (us : List Test) → gives_not us OutOfRange ≡ true → first_of (not fits gives OutOfRange ∷ not query gives OutOfRange ∷ us) ≡ Refuse OutOfRange ↔ (fits && query ≡ false)
+first_two : (fits query : Bool) (us : List Test) → gives_not us OutOfRange ≡ true → first_of (not fits gives OutOfRange ∷ not query gives OutOfRange ∷ us) ≡ Err OutOfRange ↔ (fits && query ≡ false)
 first_two true true us g = (never-given us OutOfRange g, never)
 first_two true false us g = ((λ e. refl), λ e. refl)
 first_two false query us g = ((λ e. refl), λ e. refl)
@@ -344,14 +342,14 @@ module _ (start kind destination count : ℕ) where
               let both = and-true (query_fits asked) (is_query asked) (query-inside.1 q) in
               rw (both.0, both.1, lt-ltb line 256 (omega (arith, l.1)))
 
-      never-refused : (r : Refusal) → Unexplained r ≡ why_of st site asked line → ⊥
-      never-refused r e = number-some r (ap (λ (a : Explanation). (explanation_numbered a).number) e ∙ ap (λ (i : Numbered). i.number) (why-answers st site asked line))
+      never-refused : (r : Refusal) → Err r ≡ why_of st site asked line → ⊥
+      never-refused r e = number-some r (ap (λ (a : Result (Option Stop) Refusal). (explanation_numbered a).number) e ∙ ap (λ (i : Numbered). i.number) (why-answers st site asked line))
 
-      why-refused : why_through st site asked line ≡ Unexplained OutOfRange ↔ (first_of (why_through_tests st site asked line) ≡ Refuse OutOfRange)
+      why-refused : why_through st site asked line ≡ Err OutOfRange ↔ (first_of (why_through_tests st site asked line) ≡ Err OutOfRange)
       unfolding why_through
       why-refused = (
-        chose-refused Unexplained (λ q r e. cc) (first_of (why_through_tests st site asked line)) (why_of st site asked line) OutOfRange (never-refused OutOfRange),
-        ap (answer_by Unexplained (why_of st site asked line)),
+        chose-refused Err (λ q r e. cc) (first_of (why_through_tests st site asked line)) (why_of st site asked line) OutOfRange (never-refused OutOfRange),
+        ap (answer_by Err (why_of st site asked line)),
       )
 
       pub why-numbers : (AllInside (line from 0 to 0xFF ∷ query_numbers start kind destination count) → ⊥) ↔ (explanation_number (why_through st site asked line) ≡ 14)
@@ -376,11 +374,11 @@ up_to_the_side settings table block =
 abbrev drawn : List ℕ → List ℕ → List ℕ → Refusal
 drawn settings table block = cond (lent_right settings block) (unsided settings table) OutOfRange
 
-first-drawn : (settings table block : List ℕ) → first_of (up_to_the_side settings table block) ≡ Refuse (drawn settings table block)
+first-drawn : (settings table block : List ℕ) → first_of (up_to_the_side settings table block) ≡ Err (drawn settings table block)
 first-drawn settings table block = go (lent_right settings block) (eqb (octet_at settings 0) 0 || not (are_codes (codes_in settings))) (table_fits (codes_in settings) (length table))
   where
     go : (right wrong fits : Bool) → first_of (not right gives OutOfRange ∷ wrong gives WrongSetting ∷ not fits gives NoTable ∷ true gives OutOfRange ∷ [])
-        ≡ Refuse (cond right (cond wrong WrongSetting (cond (not fits) NoTable OutOfRange)) OutOfRange)
+        ≡ Err (cond right (cond wrong WrongSetting (cond (not fits) NoTable OutOfRange)) OutOfRange)
     go false wrong fits = refl
     go true true fits = refl
     go true false true = refl
@@ -389,12 +387,12 @@ first-drawn settings table block = go (lent_right settings block) (eqb (octet_at
 -- "side: the receiving side, 0 main, 1 sub": every other number draws its 14, or what comes before it, and room and memory stay
 pub step-side : (settings table block s room : List ℕ) (side answer : ℕ) (block' room' : List ℕ) → Octets s → Octets block
     → SteppedThrough (lent_right settings block) (coupler_set settings side table) block s room answer block' room'
-    → (AllInside (side from 0 to 1 ∷ []) → ⊥) → (r : Refusal) → first_of (up_to_the_side settings table block) ≡ Refuse r
+    → (AllInside (side from 0 to 1 ∷ []) → ⊥) → (r : Refusal) → first_of (up_to_the_side settings table block) ≡ Err r
     → (answer ≡ number r) × ((block' ≡ block) × (room' ≡ room))
 unfolding heard_through
 step-side settings table block s room side answer block' room' o ob w n r f =
     let none : ltb side 2 ≡ false = by_cases (ltb side 2) (λ e. absurd (n (up_to side 1 (ltb-true side 2 e), tt))) (λ e. e) in
-    let d : drawn settings table block ≡ r = refuse-one (sym (first-drawn settings table block) ∙ f) in
+    let d : drawn settings table block ≡ r = err-one (sym (first-drawn settings table block) ∙ f) in
     let a : answer ≡ number r = refused-answer w (drawn settings table block) (heard-none none (lent_right settings block)) ∙ ap number d in
     let some : number_in answer ≡ 0 → ⊥ = λ z. number-some r (sym (ap number_in a ∙ number-alone r) ∙ z) in
     (a, step-refused-stays settings (coupler_set settings side table) block s room answer block' room' o w ob some)

@@ -1,5 +1,6 @@
 -- Document 01: "These idle programs have to be shut out". A program is any function that meets the contract of its call; each theorem shows
 -- that none of the kind named does, from the case or the demand that the paper names beside it.
+use Rattle.std.specs.Prelude.{Result, Ok}
 use Prim.Native.Nat.{ℕ, zero, suc, ◌-◌, ◌≤◌, ◌<◌}
 use mathlib.Core.Bool.{true, false}
 use mathlib.Core.List.{List, [], ◌∷◌}
@@ -18,12 +19,9 @@ use Rattle.frame.specs.Answers.{Numbered, written_numbered}
 use Rattle.frame.specs.Fields.{control_of, ctrle_of}
 use Rattle.frame.proofs.Order.{passed-iff}
 use Rattle.frame.specs.Order.{first_of, NoneOf}
-use Rattle.frame.specs.declared.Verdict.TheVariants.{Fine}
-use Rattle.frame.specs.declared.Verdict.{Verdict}
 use Rattle.frame.specs.Valid.{in_range}
 use Rattle.frame.specs.Writing.{Wrote}
 use Rattle.frame.specs.declared.Meaning.{Meaning}
-use Rattle.frame.specs.declared.Written.{Written}
 use Rattle.journey.proofs.Handing.{sent-size}
 use Rattle.octets.specs.Octets.{octet_at}
 use Rattle.octets.specs.Room.{over}
@@ -33,7 +31,6 @@ use Rattle.tp1.specs.Answers.{tp1_numbered}
 use Rattle.octets.specs.Check.{check_octet}
 use Rattle.tp1.specs.Layout.{head, sealed, tp1_octets}
 use Rattle.tp1.specs.Reading.{read_tp1}
-use Rattle.tp1.specs.declared.Tp1Answer.{Tp1Answer}
 use Rattle.tracer.proofs.Standing.{stands-iff}
 use Rattle.tracer.specs.Lines.{path, distance}
 use Rattle.tracer.specs.Query.{query_of, is_query}
@@ -44,6 +41,7 @@ use Rattle.tracer.specs.declared.Traced.{Traced}
 use Rattle.promises.specs.Telegrams.{Case, ◌hears◌and◌, Does, sends, refuses, Holds, Every, P1, P2, P7, P8, P10, P12a, cases, from_ip_open, broadcast_open, closed_row, four_couplers}
 use Rattle.promises.proofs.Demand3.{lists-exactly}
 use Rattle.promises.proofs.Telegrams.{every}
+use Rattle.frame.specs.declared.Refusal.{Refusal}
 
 -- the case at a place of the list
 
@@ -80,9 +78,9 @@ p12 = holds_at 12 cases every
 abbrev telegram : ℕ → List ℕ
 telegram check = 0xBC ∷ 0x00 ∷ 0x00 ∷ 0x12 ∷ 0x34 ∷ 0xB4 ∷ 0x00 ∷ 0x80 ∷ 0x56 ∷ 0x78 ∷ 0x9A ∷ check ∷ []
 
-module _ (read : List ℕ → Tp1Answer) (meets : (s : List ℕ) → read s ≡ read_tp1 s) where
+module _ (read : List ℕ → Result Meaning Refusal) (meets : (s : List ℕ) → read s ≡ read_tp1 s) where
   pub refuses-all : ((s : List ℕ) → (tp1_numbered (read s)).number ≡ 0 → ⊥) → ⊥
-  refuses-all h = h (telegram 0xE5) (ap (λ (a : Tp1Answer). (tp1_numbered a).number) (meets (telegram 0xE5)) ∙ ap (λ (n : Numbered). n.number) p1.0)
+  refuses-all h = h (telegram 0xE5) (ap (λ (a : Result Meaning Refusal). (tp1_numbered a).number) (meets (telegram 0xE5)) ∙ ap (λ (n : Numbered). n.number) p1.0)
 
   pub returns-one-fixed-frame : (fixed : Numbered) → ((s : List ℕ) → tp1_numbered (read s) ≡ fixed) → ⊥
   returns-one-fixed-frame fixed h =
@@ -239,7 +237,7 @@ module _ (trace : Stores → List ℕ → Query → List ℕ → TraceLeft)
     abbrev left : TraceLeft
     left = trace st site q room
 
-    passed : first_of (trace_tests st site q (length room)) ≡ Fine
+    passed : first_of (trace_tests st site q (length room)) ≡ Ok tt
     passed = (passed-iff (trace_tests st site q (length room))).1 (rw asks refl, (le-ltb (length room) 768 large, well))
 
     -- three octets of the list tell of a line another number of couplers crossed than its path has
@@ -247,7 +245,7 @@ module _ (trace : Stores → List ℕ → Query → List ℕ → TraceLeft)
     unfolding distance
     invents-crossings line count crossed s other =
         let lines : left.answer.lines ≡ lines_listed st site q = ap (λ (t : Traced). t.lines) ((meets st site q room).answered ∙ ap (traced_by st site q) passed) in
-        let front : left.room ≡ over (listed st site q) room = (meets st site q room).left ∙ ap (λ (v : Verdict). over (list_by st site q v) room) passed in
+        let front : left.room ≡ over (listed st site q) room = (meets st site q room).left ∙ ap (λ (v : Result (Unit {0}) Refusal). over (list_by st site q v) room) passed in
         let told = (stands-iff st site q room line count crossed).0 (subst (λ (n : ℕ). StandsIn (over (listed st site q) room) n line count crossed) lines (subst (λ (l : List ℕ). StandsIn l left.answer.lines line count crossed) front s)) in
         other (sym told.1.crosses)
 
@@ -258,7 +256,7 @@ module _ (trace : Stores → List ℕ → Query → List ℕ → TraceLeft)
 
 -- what a writer leaves: its answer and the room
 pub record WriteLeft : Type 0 where
-  pub answer : Written
+  pub answer : Result ℕ Refusal
   pub room : List ℕ
 
 abbrev meaning_p1 : Meaning
@@ -277,7 +275,7 @@ unfolding in_range
 ranged-p1 = refl
 
 -- how many octets of the room are the frame's
-abbrev pub written_size : Written → ℕ
+abbrev pub written_size : Result ℕ Refusal → ℕ
 written_size w = octet_at (written_numbered w).values 0
 
 -- the octets that it writes are those of a form of its own, which for P1's meaning and payload are not P1's

@@ -1,5 +1,6 @@
 -- Demand 3, and what a planner really wants to know: the list is what the couplers do, whatever each of them remembers, the backbone being
 -- TP1 or IP. A first sending is put on the starting line of a well-formed site at work, and just that telegram is traced.
+use Rattle.std.specs.Prelude.{Result, Ok}
 use Prim.Native.Nat.{ℕ, zero, suc, ◌≤◌, ◌<◌}
 use mathlib.Core.Bool.{Bool, true, false, ◌&&◌}
 use mathlib.Core.List.{List, [], ◌∷◌}
@@ -12,8 +13,6 @@ use borrow.Author.Tests.{leb-true, eqb-true, eqb-false, le-ltb, le-leb}
 use Rattle.frame.proofs.Order.{passed-iff}
 use Rattle.frame.proofs.Valid.{Ranges, ranges-of, ranged}
 use Rattle.frame.specs.Order.{first_of, NoneOf}
-use Rattle.frame.specs.declared.Verdict.TheVariants.{Fine}
-use Rattle.frame.specs.declared.Verdict.{Verdict}
 use Rattle.frame.specs.Valid.{Valid}
 use Rattle.frame.specs.declared.Meaning.{Meaning}
 use Rattle.octets.proofs.Truth.{by_cases, and-true}
@@ -32,6 +31,7 @@ use Rattle.tracer.specs.Listing.{StandsIn, listed, lines_listed, forwardings}
 use Rattle.tracer.specs.declared.Query.{Query}
 use Rattle.tracer.specs.Tracing.{trace_tests, traced_by, list_by, DidTrace}
 use Rattle.tracer.specs.declared.Traced.{Traced}
+use Rattle.frame.specs.declared.Refusal.{Refusal}
 
 -- the backbone may be either: it is IP exactly if it is meant to be
 pub backbone-on-ip : (w : AtWork) → NoneOf (site_tests w.stores w.site) → is_ip w 0 ≡ w.meant_ip 0
@@ -39,7 +39,7 @@ backbone-on-ip w ok = backbone-ip w ((passed-iff (site_tests w.stores w.site)).1
 
 module _ (w : AtWork) (o : Octets w.site) (ok : NoneOf (site_tests w.stores w.site)) (start : ℕ) (small : start < 256) (m : Meaning) (p : List ℕ) (v : Valid m p) (new : m.first ≡ true)
     (room room' : List ℕ) (answer : Traced) (large : 768 ≤ length room) (d : DidTrace w.stores w.site (asked_of w start m) room answer room') where
-  fine : first_of (site_tests w.stores w.site) ≡ Fine
+  fine : first_of (site_tests w.stores w.site) ≡ Ok tt
   fine = (passed-iff (site_tests w.stores w.site)).1 ok
 
   asks : is_query (asked_of w start m) ≡ true
@@ -49,10 +49,10 @@ module _ (w : AtWork) (o : Octets w.site) (ok : NoneOf (site_tests w.stores w.si
       kind true = refl
       kind false = refl
 
-  passed : first_of (trace_tests w.stores w.site (asked_of w start m) (length room)) ≡ Fine
+  passed : first_of (trace_tests w.stores w.site (asked_of w start m) (length room)) ≡ Ok tt
   passed = (passed-iff (trace_tests w.stores w.site (asked_of w start m) (length room))).1 (rw asks refl, (le-ltb (length room) 768 large, ok))
 
-  answered : answer ≡ traced_by w.stores w.site (asked_of w start m) Fine
+  answered : answer ≡ traced_by w.stores w.site (asked_of w start m) (Ok tt)
   answered = d.answered ∙ ap (traced_by w.stores w.site (asked_of w start m)) passed
 
   lines_are : answer.lines ≡ lines_listed w.stores w.site (asked_of w start m)
@@ -62,7 +62,7 @@ module _ (w : AtWork) (o : Octets w.site) (ok : NoneOf (site_tests w.stores w.si
   forwardings-are = ap (λ (t : Traced). t.forwardings) answered
 
   room-is : room' ≡ over (listed w.stores w.site (asked_of w start m)) room
-  room-is = d.left ∙ ap (λ (x : Verdict). over (list_by w.stores w.site (asked_of w start m) x) room) passed
+  room-is = d.left ∙ ap (λ (x : Result (Unit {0}) Refusal). over (list_by w.stores w.site (asked_of w start m) x) room) passed
 
   -- what stands in the room is what is listed
   in-room : (line count crossed : ℕ) → StandsIn room' answer.lines line count crossed ↔ ((line < 256) × ListedWith w.stores w.site (asked_of w start m) line count crossed)

@@ -1,4 +1,5 @@
 -- Document 02, R-4: "Litres that add up." Each sentence as a theorem of every answer that a call's contract allows, by its number and values.
+use Rattle.std.specs.Prelude.{Result, Ok, Err}
 use Prim.Native.Nat.{ℕ, suc, ◌+◌, ◌*◌, ◌^◌, ◌≤◌, ◌<◌}
 use mathlib.Core.Bool.{true, false, ◌&&◌}
 use mathlib.Core.List.{List, [], ◌∷◌}
@@ -17,7 +18,7 @@ use Rattle.frame.specs.Answers.{Numbered, accepted, refused}
 use Rattle.frame.specs.Order.{answer_by}
 use Rattle.frame.specs.declared.Refusal.TheVariants.{Invalid, PastTotal}
 use Rattle.leak.proofs.Answers.{value_tells, coded-tells, added-tells}
-use Rattle.leak.proofs.Apart.{value-refused, code_one, code-refused, sum-refused, hundredths-one}
+use Rattle.frame.proofs.Apart.{ok-err, ok-one}
 use Rattle.leak.proofs.Chosen.{code-valid, written-chosen, chosen-one, mantissa-fits, value-reach, reach_of, in_reach-is_true}
 use Rattle.leak.proofs.Exactly.{value-by-bits, read-invalid, read-valid, write-within, write-beyond, add-invalid, add-past, add-within}
 use Rattle.leak.proofs.Series.{sum_is, total-after}
@@ -30,13 +31,8 @@ use Rattle.leak.specs.Reading.{code_tests, read_code, octets_tests, read_octets}
 use Rattle.leak.specs.Series.{Follows, left, accepted_of, sum_of}
 use Rattle.leak.specs.Total.{in_total, add_tests, add_to}
 use Rattle.leak.specs.Writing.{fits_m, code_of, code_for, in_reach, write_tests, write_code}
-use Rattle.leak.specs.declared.Value.TheVariants.{Hundredths, Refused as Unread}
-use Rattle.leak.specs.declared.Value.{Value}
-use Rattle.leak.specs.declared.Coded.TheVariants.{Code, Refused as Unwritten}
-use Rattle.leak.specs.declared.Coded.{Coded}
-use Rattle.leak.specs.declared.Added.TheVariants.{Sum, Refused as Unadded}
-use Rattle.leak.specs.declared.Added.{Added}
 use Rattle.promises.proofs.Ends.{EndsNumbered, ends_by}
+use Rattle.frame.specs.declared.Refusal.{Refusal}
 
 -- Reading
 
@@ -44,26 +40,26 @@ use Rattle.promises.proofs.Ends.{EndsNumbered, ends_by}
 pub read-ends : (code : ℕ) → EndsNumbered (signed_values (hundredths_of code)) (code_tests code) (value_numbered (read_code code))
 unfolding read_code
 read-ends code =
-    ends_by refused (accepted (signed_values (hundredths_of code))) (λ v. value_numbered (answer_by Unread (Hundredths (hundredths_of code)) v)) refl (λ r. refl) (code_tests code)
+    ends_by refused (accepted (signed_values (hundredths_of code))) (λ v. value_numbered (answer_by Err (Ok (hundredths_of code)) v)) refl (λ r. refl) (code_tests code)
 
 pub read-octets-ends : (s : List ℕ) → EndsNumbered (signed_values (hundredths_of (word_at s 0))) (octets_tests s) (value_numbered (read_octets s))
 unfolding read_octets
 read-octets-ends s =
-    ends_by refused (accepted (signed_values (hundredths_of (word_at s 0)))) (λ v. value_numbered (answer_by Unread (Hundredths (hundredths_of (word_at s 0))) v)) refl (λ r. refl) (octets_tests s)
+    ends_by refused (accepted (signed_values (hundredths_of (word_at s 0)))) (λ v. value_numbered (answer_by Err (Ok (hundredths_of (word_at s 0))) v)) refl (λ r. refl) (octets_tests s)
 
 -- "sign, four exponent bits E, eleven mantissa bits; sign and mantissa form a twelve-bit two's complement number M. Its value is M times 2 to the
 -- E hundredths": one equation for all 65,535 codes
 pub stands-for : (sign e low : ℕ) → sign < 2 → e < 16 → low < 2048 → (sign * 32768 + e * 2048 + low ≡ 0x7FFF → ⊥)
     → value_numbered (read_code (sign * 32768 + e * 2048 + low)) ≡ accepted (signed_values (sub_ℕ low (sign * 2048) *ℤ pos (2 ^ e)))
 stands-for sign e low h k l n =
-    ap value_numbered (read-valid (sign * 32768 + e * 2048 + low) n ∙ ap Hundredths (value-by-bits sign e low h k l))
+    ap value_numbered (read-valid (sign * 32768 + e * 2048 + low) n ∙ ap Ok (value-by-bits sign e low h k l))
 
 -- "7FFFh is invalid and refused (23)", and nothing else is
 pub invalid-exactly : (code : ℕ) → (value_numbered (read_code code)).number ≡ 23 ↔ (code ≡ 0x7FFF)
 invalid-exactly code = (
   (λ e. by_cases (eqb code 0x7FFF) (eqb-true code 0x7FFF) (λ p.
-      let z : ◌≡◌ {A = ℕ} 0 23 = sym (ap (λ (v : Value). (value_numbered v).number) (read-valid code (eqb-false code 0x7FFF p))) ∙ e in absurd (omega arith))),
-  λ e. ap (λ (v : Value). (value_numbered v).number) (read-invalid code e),
+      let z : ◌≡◌ {A = ℕ} 0 23 = sym (ap (λ (v : Result ℤ Refusal). (value_numbered v).number) (read-valid code (eqb-false code 0x7FFF p))) ∙ e in absurd (omega arith))),
+  λ e. ap (λ (v : Result ℤ Refusal). (value_numbered v).number) (read-invalid code e),
 )
 
 -- two octets are read as the code that they form, high octet first
@@ -75,14 +71,14 @@ two-octets high low = refl
 
 pub write-ends : (z : ℤ) → EndsNumbered (code_for z ∷ []) (write_tests z) (coded_numbered (write_code z))
 unfolding write_code
-write-ends z = ends_by refused (accepted (code_for z ∷ [])) (λ v. coded_numbered (answer_by Unwritten (Code (code_for z)) v)) refl (λ r. refl) (write_tests z)
+write-ends z = ends_by refused (accepted (code_for z ∷ [])) (λ v. coded_numbered (answer_by Err (Ok (code_for z)) v)) refl (λ r. refl) (write_tests z)
 
 -- "takes hundredths from -67,108,864 to 67,043,328, else refuses (14)"
 pub refused-exactly : (z : ℤ) → (coded_numbered (write_code z)).number ≡ 14 ↔ (in_reach z ≡ false)
 refused-exactly z = (
   (λ e. by_cases (in_reach z) (λ p.
-      let n : ◌≡◌ {A = ℕ} 0 14 = sym (ap (λ (c : Coded). (coded_numbered c).number) (write-within z p)) ∙ e in absurd (omega arith)) (λ p. p)),
-  λ e. ap (λ (c : Coded). (coded_numbered c).number) (write-beyond z e),
+      let n : ◌≡◌ {A = ℕ} 0 14 = sym (ap (λ (c : Result ℕ Refusal). (coded_numbered c).number) (write-within z p)) ∙ e in absurd (omega arith)) (λ p. p)),
+  λ e. ap (λ (c : Result ℕ Refusal). (coded_numbered c).number) (write-beyond z e),
 )
 
 -- "uses the smallest E for which the nearest M, ties to even M, fits": exactly the code that is chosen so is written, and there is one such code
@@ -91,15 +87,15 @@ written-exactly z c h = (there, back)
   where
     there : coded_numbered (write_code z) ≡ accepted (c ∷ []) → (in_reach z ≡ true) × Chosen z c
     there e =
-        let w : write_code z ≡ Code c = coded-tells.apart (write_code z) (Code c) e in
+        let w : write_code z ≡ Ok c = coded-tells.apart (write_code z) (Ok c) e in
         by_cases (in_reach z)
-        (λ p. (p, subst (Chosen z) (code_one (sym (write-within z p) ∙ w)) (written-chosen z (reach_of z p))))
-        (λ p. code-refused (sym w ∙ write-beyond z p))
+        (λ p. (p, subst (Chosen z) (ok-one (sym (write-within z p) ∙ w)) (written-chosen z (reach_of z p))))
+        (λ p. ok-err (sym w ∙ write-beyond z p))
 
     back : (in_reach z ≡ true) × Chosen z c → coded_numbered (write_code z) ≡ accepted (c ∷ [])
     back g =
         let r = reach_of z g.0 in
-        ap coded_numbered (write-within z g.0 ∙ ap Code (chosen-one z (code_for z) c (code-valid z r).0 h (written-chosen z r) g.1))
+        ap coded_numbered (write-within z g.0 ∙ ap Ok (chosen-one z (code_for z) c (code-valid z r).0 h (written-chosen z r) g.1))
 
 -- in the range some code is written, it has 16 bits and is not 7FFFh, and "the result is off by at most half of 2 to the E"
 pub record WrittenNear (z : ℤ) : Type 0 where
@@ -138,17 +134,17 @@ again-of c h n =
     record {
       code = d;
       written = ap coded_numbered (write-within (hundredths_of c) e);
-      reads = ap value_numbered (read-valid d (code-valid (hundredths_of c) r).1 ∙ ap Hundredths (again c (mantissa-fits c h) r));
+      reads = ap value_numbered (read-valid d (code-valid (hundredths_of c) r).1 ∙ ap Ok (again c (mantissa-fits c h) r));
     }
 
 pub written-again : (c : ℕ) (z : ℤ) → c < 65536 → value_numbered (read_code c) ≡ accepted (signed_values z) → WrittenAgain z
 written-again c z h e =
-    let v : read_code c ≡ Hundredths z = value_tells.apart (read_code c) (Hundredths z) e in
+    let v : read_code c ≡ Ok z = value_tells.apart (read_code c) (Ok z) e in
     by_cases (eqb c 0x7FFF)
-    (λ p. value-refused (sym v ∙ read-invalid c (eqb-true c 0x7FFF p)))
+    (λ p. ok-err (sym v ∙ read-invalid c (eqb-true c 0x7FFF p)))
     (λ p.
     let n = eqb-false c 0x7FFF p in
-    subst WrittenAgain (hundredths-one (sym (read-valid c n) ∙ v)) (again-of c h n))
+    subst WrittenAgain (ok-one (sym (read-valid c n) ∙ v)) (again-of c h n))
 
 -- 0 to 2,047 and -2,048 to -1 are exact
 plain_code : (z : ℤ) → fits_m z ≡ true → (code_of z 0 < 65536) × (code_of z 0 ≡ 0x7FFF → ⊥)
@@ -195,13 +191,13 @@ increment-exactly p code = (there, λ g. subst (λ (l : List ℕ). carried_numbe
 pub add-ends : (total : ℤ) (code : ℕ) → EndsNumbered (signed_values (total +ℤ hundredths_of code)) (add_tests total code) (added_numbered (add_to total code))
 unfolding add_to
 add-ends total code =
-    ends_by refused (accepted (signed_values (total +ℤ hundredths_of code))) (λ v. added_numbered (answer_by Unadded (Sum (total +ℤ hundredths_of code)) v)) refl (λ r. refl) (add_tests total code)
+    ends_by refused (accepted (signed_values (total +ℤ hundredths_of code))) (λ v. added_numbered (answer_by Err (Ok (total +ℤ hundredths_of code)) v)) refl (λ r. refl) (add_tests total code)
 
 module _ (total : ℤ) (code : ℕ) where
   -- the three ways that adding goes
-  ways : {P : Type 0} → (code ≡ 0x7FFF → add_to total code ≡ Unadded Invalid → P)
-      → ((code ≡ 0x7FFF → ⊥) → in_total (total +ℤ hundredths_of code) ≡ false → add_to total code ≡ Unadded PastTotal → P)
-      → ((code ≡ 0x7FFF → ⊥) → in_total (total +ℤ hundredths_of code) ≡ true → add_to total code ≡ Sum (total +ℤ hundredths_of code) → P) → P
+  ways : {P : Type 0} → (code ≡ 0x7FFF → add_to total code ≡ Err Invalid → P)
+      → ((code ≡ 0x7FFF → ⊥) → in_total (total +ℤ hundredths_of code) ≡ false → add_to total code ≡ Err PastTotal → P)
+      → ((code ≡ 0x7FFF → ⊥) → in_total (total +ℤ hundredths_of code) ≡ true → add_to total code ≡ Ok (total +ℤ hundredths_of code) → P) → P
   ways invalid past within =
       by_cases (eqb code 0x7FFF)
       (λ p. let e = eqb-true code 0x7FFF p in invalid e (add-invalid total code e))
@@ -214,9 +210,9 @@ module _ (total : ℤ) (code : ℕ) where
       ↔ ((code ≡ 0x7FFF → ⊥) × ((in_total (total +ℤ hundredths_of code) ≡ true) × (sum ≡ total +ℤ hundredths_of code)))
   added-exactly sum = (
     (λ e.
-        let a : add_to total code ≡ Sum sum = added-tells.apart (add_to total code) (Sum sum) e in
-        ways (λ p x. sum-refused (sym a ∙ x)) (λ n q x. sum-refused (sym a ∙ x)) (λ n q x. (n, (q, sum_is total code sum a)))),
-    λ g. ap added_numbered (add-within total code g.0 g.1.0 ∙ ap Sum (sym g.1.1)),
+        let a : add_to total code ≡ Ok sum = added-tells.apart (add_to total code) (Ok sum) e in
+        ways (λ p x. ok-err (sym a ∙ x)) (λ n q x. ok-err (sym a ∙ x)) (λ n q x. (n, (q, sum_is total code sum a)))),
+    λ g. ap added_numbered (add-within total code g.0 g.1.0 ∙ ap Ok (sym g.1.1)),
   )
 
   -- "a sum past the range is refused (24)": exactly such a one
@@ -224,10 +220,10 @@ module _ (total : ℤ) (code : ℕ) where
   past-exactly = (
     (λ e.
         ways
-        (λ p x. let z : ◌≡◌ {A = ℕ} 23 24 = sym (ap (λ (a : Added). (added_numbered a).number) x) ∙ e in absurd (omega arith))
+        (λ p x. let z : ◌≡◌ {A = ℕ} 23 24 = sym (ap (λ (a : Result ℤ Refusal). (added_numbered a).number) x) ∙ e in absurd (omega arith))
         (λ n q x. (n, q))
-        (λ n q x. let z : ◌≡◌ {A = ℕ} 0 24 = sym (ap (λ (a : Added). (added_numbered a).number) x) ∙ e in absurd (omega arith))),
-    λ g. ap (λ (a : Added). (added_numbered a).number) (add-past total code g.0 g.1),
+        (λ n q x. let z : ◌≡◌ {A = ℕ} 0 24 = sym (ap (λ (a : Result ℤ Refusal). (added_numbered a).number) x) ∙ e in absurd (omega arith))),
+    λ g. ap (λ (a : Result ℤ Refusal). (added_numbered a).number) (add-past total code g.0 g.1),
   )
 
   pub added-invalid-exactly : (added_numbered (add_to total code)).number ≡ 23 ↔ (code ≡ 0x7FFF)
@@ -235,11 +231,11 @@ module _ (total : ℤ) (code : ℕ) where
     (λ e.
         ways
         (λ p x. p)
-        (λ n q x. let z : ◌≡◌ {A = ℕ} 24 23 = sym (ap (λ (a : Added). (added_numbered a).number) x) ∙ e in absurd (omega arith))
-        (λ n q x. let z : ◌≡◌ {A = ℕ} 0 23 = sym (ap (λ (a : Added). (added_numbered a).number) x) ∙ e in absurd (omega arith))),
-    λ e. ap (λ (a : Added). (added_numbered a).number) (add-invalid total code e),
+        (λ n q x. let z : ◌≡◌ {A = ℕ} 24 23 = sym (ap (λ (a : Result ℤ Refusal). (added_numbered a).number) x) ∙ e in absurd (omega arith))
+        (λ n q x. let z : ◌≡◌ {A = ℕ} 0 23 = sym (ap (λ (a : Result ℤ Refusal). (added_numbered a).number) x) ∙ e in absurd (omega arith))),
+    λ e. ap (λ (a : Result ℤ Refusal). (added_numbered a).number) (add-invalid total code e),
   )
 
 -- "after any series of accepted increments equals the start plus the sum of their values"; what is refused between them leaves the total
-pub litres-add-up : (start : ℤ) (codes : List ℕ) (answers : List Added) → Follows start codes answers → left start answers ≡ start +ℤ sum_of (accepted_of codes answers)
+pub litres-add-up : (start : ℤ) (codes : List ℕ) (answers : List (Result ℤ Refusal)) → Follows start codes answers → left start answers ≡ start +ℤ sum_of (accepted_of codes answers)
 litres-add-up = total-after

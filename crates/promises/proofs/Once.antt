@@ -2,6 +2,7 @@
 -- its requests a network repeats and whatever arrives damaged among them.
 -- The premise is `Keeps` (exchange Series): the client goes on to a request only when those before it were acknowledged, no copy of a request
 -- comes after 255 later ones, and what is damaged is no request. Without each of the first two it fails: `gone-on-too-soon`, `kept-too-long`.
+use Rattle.std.specs.Prelude.{Result, Ok, Err}
 use Prim.Native.Nat.{ℕ, suc, ◌+◌, ◌%◌, ◌≤◌, ◌<◌}
 use mathlib.Core.Bool.{true, not}
 use mathlib.Core.List.{List, [], ◌∷◌}
@@ -15,8 +16,6 @@ use Rattle.cemi.proofs.Refusals.{accepted-iff}
 use Rattle.cemi.proofs.Answers.{cemi-tells}
 use Rattle.cemi.specs.Answers.{cemi_numbered}
 use Rattle.cemi.specs.Reading.{cemi_tests, read_cemi}
-use Rattle.cemi.specs.declared.CemiAnswer.TheVariants.{Frame as Read, Refused as Unread}
-use Rattle.cemi.specs.declared.CemiAnswer.{CemiAnswer}
 use Rattle.cemi.specs.declared.Codes.TheVariants.{All}
 use Rattle.cemi.specs.declared.Message.{Message}
 use Rattle.channels.specs.Table.{channel_at, raised}
@@ -27,7 +26,6 @@ use Rattle.tunnelling.specs.Answers.{request_values, request_numbered}
 use Rattle.tunnelling.specs.Layout.{request_service}
 use Rattle.tunnelling.specs.Reading.{channel_in, message, connected_tests, read_request}
 use Rattle.tunnelling.specs.declared.Request.{Request}
-use Rattle.tunnelling.specs.declared.RequestAnswer.TheVariants.{Frame}
 use Rattle.frame.proofs.Order.{none-split}
 use Rattle.frame.specs.Answers.{accepted}
 use Rattle.frame.specs.Order.{◌gives◌}
@@ -39,6 +37,7 @@ use Rattle.exchange.specs.Receiving.{Took}
 use Rattle.exchange.specs.Series.{Client, Readable, counter_of, request_of, meant, from_on, Arrival, Keeps, news, comes, Done, Receives, delivered_by}
 use Rattle.exchange.specs.declared.Received.{Received}
 use Rattle.promises.proofs.Tunnelling.{Comes, delivered-exactly, again-exactly, other-counter-exactly}
+use Rattle.frame.specs.declared.Refusal.{Refusal}
 
 -- a counter raised is the next one's
 onward : (n t : ℕ) → raised ((n + t) % 256) ≡ (n + suc t) % 256
@@ -52,21 +51,21 @@ further n e = omega arith
 
 module _ (k : Client) (readable : Readable k) where
   -- a client's requests are read as what they mean
-  reads : (j : ℕ) → read_request (request_of k j) ≡ Frame (meant k j)
+  reads : (j : ℕ) → read_request (request_of k j) ≡ Ok (meant k j)
   reads j = connected-read k.channel (counter_of k j) 0x00 (k.message j) ∙ go (read_cemi All (k.message j)) refl (readable j)
     where
-      go : (a : CemiAnswer) → read_cemi All (k.message j) ≡ a → (cemi_numbered a).number ≡ 0 → request_by k.channel (counter_of k j) (read_cemi All (k.message j)) ≡ Frame (meant k j)
-      go (Read x) e z =
+      go : (a : Result Message Refusal) → read_cemi All (k.message j) ≡ a → (cemi_numbered a).number ≡ 0 → request_by k.channel (counter_of k j) (read_cemi All (k.message j)) ≡ Ok (meant k j)
+      go (Ok x) e z =
           ap (request_by k.channel (counter_of k j)) e
-          ∙ ap (λ (m : Message). Frame (record { channel = k.channel; counter = counter_of k j; message = m })) (sym ((accepted-iff All (k.message j) x).0 e).1)
-      go (Unread r) e z = absurd ((cemi-tells.zero (Unread r)).0 z r refl)
+          ∙ ap (λ (m : Message). Ok (record { channel = k.channel; counter = counter_of k j; message = m })) (sym ((accepted-iff All (k.message j) x).0 e).1)
+      go (Err r) e z = absurd ((cemi-tells.zero (Err r)).0 z r refl)
 
   -- the client's channel is open and expects the counter of its request t, as it does when those before t were acknowledged; at the start t is 0
   pub record Expects (cs : List Channel) (t : ℕ) : Type 0 where
     pub opened : (channel_at cs k.channel).opened ≡ true
     pub counter : (channel_at cs k.channel).receive ≡ counter_of k t
 
-  module _ (cs : List Channel) (room : List ℕ) (a : Received) (cs' : List Channel) (room' : List ℕ) (h : 10 ≤ length room) where
+  module _ (cs : List Channel) (room : List ℕ) (a : Result Received Refusal) (cs' : List Channel) (room' : List ℕ) (h : 10 ≤ length room) where
     comes-with : (j t : ℕ) → Expects cs t → Comes cs (request_of k j) room (meant k j)
     comes-with j t o = record { fits = h; read = ap request_numbered (reads j); opened = o.opened }
 
@@ -87,7 +86,7 @@ module _ (k : Client) (readable : Readable k) where
   delivered-if-it-came series p j = rw zero-add at (comes-iff k j 0 series (omega arith) p)
 
   -- A client that goes on although nothing was acknowledged: its second request, come first, is refused by 21.
-  pub gone-on-too-soon : (cs : List Channel) (room : List ℕ) (a : Received) (cs' : List Channel) (room' : List ℕ) → Expects cs 0 → 10 ≤ length room → Took cs (request_of k 1) room a cs' room'
+  pub gone-on-too-soon : (cs : List Channel) (room : List ℕ) (a : Result Received Refusal) (cs' : List Channel) (room' : List ℕ) → Expects cs 0 → 10 ≤ length room → Took cs (request_of k 1) room a cs' room'
       → (received_numbered a).number ≡ 21
   gone-on-too-soon cs room a cs' room' o h g =
       let s : List ℕ = request_of k 1 in
@@ -107,7 +106,7 @@ module _ (k : Client) (readable : Readable k) where
       behind e = further k.first e
 
   -- A copy of the first request that comes after 256 of them is delivered a second time.
-  pub kept-too-long : (cs : List Channel) (room : List ℕ) (a : Received) (cs' : List Channel) (room' : List ℕ)
+  pub kept-too-long : (cs : List Channel) (room : List ℕ) (a : Result Received Refusal) (cs' : List Channel) (room' : List ℕ)
       → Expects cs 256 → 10 ≤ length room → Took cs (request_of k 0) room a cs' room'
       → received_numbered a ≡ accepted (request_values (meant k 0))
   kept-too-long cs room a cs' room' o h g =

@@ -2,6 +2,7 @@
 -- the memory in a block, as a theorem of every answer that the call's contract allows. A decoder is what the header's helpers work out
 -- (klumdray Decoding, specs). Premises are what the parameters' types give: octets are below 256. Given has what becomes
 -- of numbers outside their ranges.
+use Rattle.std.specs.Prelude.{Result, Ok, Err, None}
 use Prim.Native.Nat.{ℕ, ◌+◌, ◌≤◌, ◌<◌}
 use mathlib.Core.Bool.{Bool, true, false, cond, ◌&&◌}
 use mathlib.Core.List.{List, [], ◌∷◌}
@@ -26,8 +27,6 @@ use Rattle.frame.proofs.Numbers.{number-listed, number-not-22}
 use Rattle.frame.proofs.Order.{passed-iff}
 use Rattle.frame.specs.Answers.{Numbered, written_numbered}
 use Rattle.frame.specs.Order.{first_of}
-use Rattle.frame.specs.declared.Verdict.TheVariants.{Fine, Refuse}
-use Rattle.frame.specs.declared.Verdict.{Verdict}
 use Rattle.frame.specs.Refusals.{number, last_number}
 use Rattle.frame.specs.Valid.{in_range}
 use Rattle.frame.specs.Writing.{written}
@@ -64,13 +63,8 @@ use Rattle.tracer.specs.Listing.{crossing_passes}
 use Rattle.tracer.specs.declared.Query.{Query}
 use Rattle.tracer.specs.Tracing.{trace_tests, traced_by, list_by, DidTrace}
 use Rattle.tracer.specs.Why.{answer_why}
-use Rattle.tracer.specs.declared.Explanation.TheVariants.{Reached}
 use Rattle.cemi.specs.Reading.{payload_in as cemi_payload, payload_at as cemi_payload_at}
-use Rattle.cemi.specs.declared.CemiAnswer.TheVariants.{Refused as Cemi-refused}
-use Rattle.frame.specs.declared.Written.TheVariants.{Refused as Unwritten}
 use Rattle.klumdray.proofs.StepNumbers.{at-most-270 as forwarded-most}
-use Rattle.tp1.specs.declared.Tp1Answer.TheVariants.{Refused as Tp1-refused}
-use Rattle.tracer.specs.declared.Explanation.TheVariants.{Refused as Unexplained}
 
 -- "Every answer but that of klumdray_check_octet .. carries a number": with a refusal one of the table's
 pub refusals-listed : (r : Refusal) → (1 ≤ number r) × ((number r ≤ last_number) × (number r ≡ 22 → ⊥))
@@ -78,13 +72,13 @@ refusals-listed r = ((number-listed r).0, ((number-listed r).1, number-not-22 r)
 
 -- "A reader's answer is one number of 64 bits. With a refusal every bit above 7 is 0."
 module _ (s : List ℕ) (o : Octets s) where
-  pub tp1-read-back : TellsReading 56 tp1_from (tp1_answered s) (tp1_numbered (read_tp1 s)) (λ r. read_tp1 s ≡ Tp1-refused r) (payload_in (read_tp1 s) s)
+  pub tp1-read-back : TellsReading 56 tp1_from (tp1_answered s) (tp1_numbered (read_tp1 s)) (λ r. read_tp1 s ≡ Err r) (payload_in (read_tp1 s) s)
   tp1-read-back = tp1-tells s o
 
-  pub cemi-read-back : TellsReading 59 cemi_from (cemi_answered s) (cemi_numbered (read_cemi All s)) (λ r. read_cemi All s ≡ Cemi-refused r) (cemi_payload (read_cemi All s) s)
+  pub cemi-read-back : TellsReading 59 cemi_from (cemi_answered s) (cemi_numbered (read_cemi All s)) (λ r. read_cemi All s ≡ Err r) (cemi_payload (read_cemi All s) s)
   cemi-read-back = cemi-tells s o
 
-  pub routing-read-back : TellsReading 59 cemi_from (routing_answered s) (cemi_numbered (read_routing s)) (λ r. read_routing s ≡ Cemi-refused r) (routed_payload (read_routing s) s)
+  pub routing-read-back : TellsReading 59 cemi_from (routing_answered s) (cemi_numbered (read_routing s)) (λ r. read_routing s ≡ Err r) (routed_payload (read_routing s) s)
   routing-read-back = routing-tells s o
 
   -- "The payload is a part of the caller's octets, not copied, and so is cEMI's additional information: the helpers at the end of this file
@@ -103,7 +97,7 @@ module _ (s : List ℕ) (o : Octets s) where
 -- "A writer's answer: bits 0 to 7 the number, bits 8 to 63 the octets written, 0 with a refusal." What is written is all of the frame, whose
 -- size is the one that the header gives; a refused call has written nothing
 pub record WritesBack (ranged : Bool) (octets room : List ℕ) (size : ℕ) (answer : ℕ) (after : List ℕ) : Type 0 where
-  pub told : Tells 64 written_from answer (written_numbered (written ranged octets room)) (λ r. written ranged octets room ≡ Unwritten r)
+  pub told : Tells 64 written_from answer (written_numbered (written ranged octets room)) (λ r. written ranged octets room ≡ Err r)
   pub whole : number_in answer ≡ 0 → written_in answer ≡ size
   pub stays : (number_in answer ≡ 0 → ⊥) → after ≡ room
 
@@ -179,26 +173,26 @@ remembered-read block side n h = (remembered-within block side n h, remembered-i
 
 -- "A trace's answer. With a refusal every bit above 7 is 0."
 module _ (st : Stores) (site : List ℕ) (q : Query) (room : List ℕ) (answer : ℕ) (room' : List ℕ) (w : TracedThrough st site q room answer room') where
-  abbrev verdict : Verdict
+  abbrev verdict : Result (Unit {0}) Refusal
   verdict = first_of (trace_through_tests st site q (length room))
 
-  pub trace-back : Tells 40 traced_from answer (traced_numbered (traced_by st site q verdict)) (λ r. verdict ≡ Refuse r)
+  pub trace-back : Tells 40 traced_from answer (traced_numbered (traced_by st site q verdict)) (λ r. verdict ≡ Err r)
   trace-back = trace-told st site q w
 
   -- a trace that is not refused is the trace inside, of the numbers as they are given
   pub trace-is-inside : number_in answer ≡ 0 → DidTrace st site q room (record { number = 0; lines = lines_in answer; forwardings = forwardings_in answer }) room'
   trace-is-inside z = go verdict refl
     where
-      go : (v : Verdict) → verdict ≡ v → DidTrace st site q room (record { number = 0; lines = lines_in answer; forwardings = forwardings_in answer }) room'
-      go Fine e =
+      go : (v : Result (Unit {0}) Refusal) → verdict ≡ v → DidTrace st site q room (record { number = 0; lines = lines_in answer; forwardings = forwardings_in answer }) room'
+      go (Ok _) e =
           let fits : query_fits q ≡ true = not-false (query_fits q) ((passed-iff (trace_through_tests st site q (length room))).0 e).0 in
-          let inside : Fine ≡ first_of (trace_tests st site q (length room)) = sym (trace-inside st site q (length room) fits ∙ e) in
+          let inside : Ok tt ≡ first_of (trace_tests st site q (length room)) = sym (trace-inside st site q (length room) fits ∙ e) in
           let n = trace-counted st site q w e in
           record {
             answered = rw (n.0, n.1) (ap (traced_by st site q) inside);
-            left = w.left ∙ ap (λ (v : Verdict). over (list_by st site q v) room) (e ∙ inside);
+            left = w.left ∙ ap (λ (v : Result (Unit {0}) Refusal). over (list_by st site q v) room) (e ∙ inside);
           }
-      go (Refuse r) e = absurd (trace-back.accepted.0 z r e)
+      go (Err r) e = absurd (trace-back.accepted.0 z r e)
 
   -- "how many lines are listed, 1 to 256"; "the forwardings made on the site: the lines listed less one"
   pub one-to-256-lines : number_in answer ≡ 0 → (1 ≤ lines_in answer) × ((lines_in answer ≤ 256) × (forwardings_in answer + 1 ≡ lines_in answer))
@@ -213,10 +207,10 @@ module _ (st : Stores) (site : List ℕ) (q : Query) (room : List ℕ) (answer :
 
 -- "A why's answer is one number of 32 bits. With a refusal, and where the line is reached, every other bit is 0."
 module _ (st : Stores) (site : List ℕ) (q : Query) (line : ℕ) where
-  pub why-back : Tells 25 explanation_from (explanation_number (why_through st site q line)) (explanation_numbered (why_through st site q line)) (λ r. why_through st site q line ≡ Unexplained r)
+  pub why-back : Tells 25 explanation_from (explanation_number (why_through st site q line)) (explanation_numbered (why_through st site q line)) (λ r. why_through st site q line ≡ Err r)
   why-back = why-told st site q line
 
-  pub reached-is-zero : explanation_number (why_through st site q line) ≡ 0 ↔ (why_through st site q line ≡ Reached)
+  pub reached-is-zero : explanation_number (why_through st site q line) ≡ 0 ↔ (why_through st site q line ≡ Ok None)
   reached-is-zero = why-reached st site q line
 
   -- an explanation that is not refused is the one inside, of the numbers as they are given

@@ -1,6 +1,7 @@
 -- The C surface of tunnelling. Each sentence of include/klumdray.h about the answers of its seven calls, the parts of a datagram and the
 -- block of channels, as a theorem of every outcome that the call's contract allows; and that the calls over the block are those over the
 -- table inside, of which Tunnelling and Once speak. Surface has the other calls.
+use Rattle.std.specs.Prelude.{Err}
 use Prim.Native.Nat.{ℕ, ◌+◌, ◌-◌, ◌*◌}
 use mathlib.Core.Bool.{Bool, true, false, ◌&&◌}
 use mathlib.Core.List.{List}
@@ -18,9 +19,7 @@ use Rattle.exchange.specs.Answers.{confirmed_numbered}
 use Rattle.exchange.specs.Confirming.{confirming}
 use Rattle.exchange.specs.Receiving.{receiving, acknowledging, delivered_message, Took}
 use Rattle.exchange.specs.Sending.{sending, Sent}
-use Rattle.exchange.specs.declared.Confirmed.TheVariants.{Refused as Unconfirmed}
 use Rattle.frame.specs.Answers.{written_numbered}
-use Rattle.frame.specs.declared.Written.TheVariants.{Refused as Unwritten}
 use Rattle.klumdray.proofs.ChannelsInside.{channel-reads, taken-through, took-inside, took-other, settled-through, confirmed-inside, confirmed-other, sent-inside, sent-other, took-changes, confirmed-changes}
 use Rattle.klumdray.proofs.Counted.{took-raises, took-leaves, took-acknowledges, took-stays, confirmed-raises, confirmed-leaves}
 use Rattle.klumdray.proofs.Parts.{request-message, request-parts}
@@ -37,17 +36,15 @@ use Rattle.tunnelling.specs.Answers.{request_numbered, acknowledgement_numbered}
 use Rattle.tunnelling.specs.Layout.{request_octets, acknowledgement_octets}
 use Rattle.tunnelling.specs.Reading.{channel_in, read_request, request_message, request_message_at, read_acknowledgement}
 use Rattle.tunnelling.specs.declared.Acknowledgement.{Acknowledgement}
-use Rattle.tunnelling.specs.declared.AcknowledgementAnswer.TheVariants.{Refused as Unacknowledged}
-use Rattle.tunnelling.specs.declared.RequestAnswer.TheVariants.{Refused as Not-request}
 
 -- the two services on the wire
 
 module _ (s : List ℕ) (o : Octets s) where
   -- the answer with the datagram's own channel and counter is the request read
-  pub request-read-back : TellsReading 59 (request_from s) (request_answered s) (request_numbered (read_request s)) (λ r. read_request s ≡ Not-request r) (request_payload (read_request s) s)
+  pub request-read-back : TellsReading 59 (request_from s) (request_answered s) (request_numbered (read_request s)) (λ r. read_request s ≡ Err r) (request_payload (read_request s) s)
   request-read-back = request-tells s o
 
-  pub ack-read-back : Tells 32 acknowledged_from (acknowledgement_answered s) (acknowledgement_numbered (read_acknowledgement s)) (λ r. read_acknowledgement s ≡ Unacknowledged r)
+  pub ack-read-back : Tells 32 acknowledged_from (acknowledgement_answered s) (acknowledgement_numbered (read_acknowledgement s)) (λ r. read_acknowledgement s ≡ Err r)
   ack-read-back = acknowledgement-tells s o
 
   -- where the message of an accepted request begins, and in it payload and additional information
@@ -129,7 +126,7 @@ module _ {fit : Bool} {block : List ℕ} {n : ℕ} {x : Message} {p room : List 
   pub send-other-block : (length block ≡ channel_size * many → ⊥) → (answer ≡ 14) × (room' ≡ room)
   send-other-block h = sent-other w (ap (λ (b : Bool). b && fit) (not-sized block h))
 
-  pub send-back : Tells 64 written_from answer (written_numbered (sent_through fit block n x p (length room))) (λ r. sent_through fit block n x p (length room) ≡ Unwritten r)
+  pub send-back : Tells 64 written_from answer (written_numbered (sent_through fit block n x p (length room))) (λ r. sent_through fit block n x p (length room) ≡ Err r)
   send-back = sent-told w
 
   -- the whole request, with the channel's send counter, at the front of the room
@@ -151,7 +148,7 @@ module _ {block s : List ℕ} {answer : ℕ} {block' : List ℕ} (w : ConfirmedT
   pub confirm-changes : ChangesAt (channel_place (channel_in s) send_place) block block'
   confirm-changes = confirmed-changes w
 
-  pub confirm-back : Tells 9 confirmed_from answer (confirmed_numbered (confirmed_through block s)) (λ r. confirmed_through block s ≡ Unconfirmed r)
+  pub confirm-back : Tells 9 confirmed_from answer (confirmed_numbered (confirmed_through block s)) (λ r. confirmed_through block s ≡ Err r)
   confirm-back = confirmed-told w
 
   -- "bit 8 is 1 if the send counter was raised": then it is, and otherwise the block stays

@@ -1,12 +1,11 @@
 -- Document 01, "Telegrams to check against": the cases marked P; and those that document 02 adds, R-2's and R-4's. As one list.
-use Rattle.std.specs.Prelude.{ℕ, ◌/◌, true, false, cond, List, [], ◌∷◌, ◌++◌, map, ◌≡◌, eqb, ℤ, pos, negsuc, length, take, replicate}
+use Rattle.std.specs.Prelude.{ℕ, ◌/◌, true, false, cond, List, [], ◌∷◌, ◌++◌, map, ◌≡◌, eqb, ℤ, pos, negsuc, length, take, replicate, Result, Ok, Err}
 use Rattle.passing.specs.Passing.{table_octet, table_bit}
 use Rattle.coupler.specs.Setting.{setting_of}
 use Rattle.coupler.specs.Memory.{no_memory}
 use Rattle.coupler.specs.Series.{Input, Done, series}
 use Rattle.coupler.specs.Step.{Coupler, coupler_by, outcome_of, sent, acknowledgement_number}
 use Rattle.frame.specs.Order.{first_of}
-use Rattle.frame.specs.declared.Verdict.{Verdict}
 use Rattle.frame.specs.Answers.{Numbered, accepted, meaning_values}
 use Rattle.frame.specs.declared.Refusal.TheVariants.{WrongCheck}
 use Rattle.leak.specs.Answers.{signed_values, value_numbered, coded_numbered, added_numbered}
@@ -15,13 +14,14 @@ use Rattle.leak.specs.Total.{add_to}
 use Rattle.leak.specs.Writing.{write_code}
 use Rattle.station.specs.Series.{takes}
 use Rattle.station.specs.declared.Tally.{Tally}
-use Rattle.station.specs.declared.Telegram.TheVariants.{Increment, Repetition, OtherGroup, Refused}
+use Rattle.station.specs.declared.Telegram.TheVariants.{Increment, Repetition, OtherGroup}
 use Rattle.site.specs.Stores.{stores}
 use Rattle.tp1.specs.Answers.{tp1_numbered}
 use Rattle.tp1.specs.Reading.{payload_in, read_tp1}
 use Rattle.tracer.specs.Query.{query_of}
 use Rattle.tracer.specs.declared.Query.{Query}
 use Rattle.tracer.specs.Tracing.{trace_tests, traced_by, list_by}
+use Rattle.frame.specs.declared.Refusal.{Refusal}
 
 -- a refusal in the paper's words: its number, and no values
 abbrev pub refused_by : ℕ → Numbered
@@ -78,7 +78,7 @@ doing d =
     (refuses d.outcome.number)
 
 -- the verdict on a query with empty stores and a room of 768, and what is listed
-abbrev pub asked : Query → List ℕ → Verdict
+abbrev pub asked : Query → List ℕ → Result (Unit {0}) Refusal
 asked q site = first_of (trace_tests (stores [] []) site q 768)
 
 abbrev pub Holds : Case → Type 0
@@ -286,11 +286,11 @@ R4n =
     station 0x1234 hears-in-turn
     telegram_one ∷ one_repeated ∷ (0xBC ∷ 0x47 ∷ 0x15 ∷ 0x12 ∷ 0x34 ∷ 0xE3 ∷ 0x00 ∷ 0x80 ∷ 0x4C ∷ 0x1B ∷ 0x43 ∷ []) ∷ two_repeated ∷ (0xBC ∷ 0x47 ∷ 0x15 ∷ 0x12 ∷ 0x35 ∷ 0xE3 ∷ 0x00 ∷ 0x80 ∷ 0x0C ∷ 0x1A ∷ 0x43 ∷ []) ∷ []
     and
-    record { telegram = Increment 0x0C1A; total = pos 2100 }
-    ∷ record { telegram = Repetition; total = pos 2100 }
-    ∷ record { telegram = Refused WrongCheck; total = pos 2100 }
-    ∷ record { telegram = Increment 0x0C1B; total = pos 4202 }
-    ∷ record { telegram = OtherGroup; total = pos 4202 }
+    record { telegram = Ok (Increment 0x0C1A); total = pos 2100 }
+    ∷ record { telegram = (Ok Repetition); total = pos 2100 }
+    ∷ record { telegram = Err WrongCheck; total = pos 2100 }
+    ∷ record { telegram = Ok (Increment 0x0C1B); total = pos 4202 }
+    ∷ record { telegram = (Ok OtherGroup); total = pos 4202 }
     ∷ []
 
 abbrev pub cases : List Case

@@ -1,4 +1,5 @@
 -- The tracer's answer and list, as the text that says them; and that the room has every text.
+use Rattle.std.specs.Prelude.{Result, Ok, Err}
 use Prim.Native.Nat.{ℕ, ◌+◌, ◌-◌, ◌*◌, ◌^◌, ◌≤◌, ◌<◌}
 use mathlib.Core.Bool.{Bool, true, false}
 use mathlib.Core.List.{List, [], ◌∷◌, ◌++◌}
@@ -8,14 +9,10 @@ use native.Mathlib.Omega.{arith}
 use lib.ListN.{length, take, drop, replicate, length-append, length-drop}
 use lib.Seq.{take_at}
 use borrow.Author.Tests.{ltb-true, lt-ltb, le-ltb}
-use Rattle.frame.proofs.Apart.{put_refused}
+use Rattle.frame.proofs.Apart.{err-ok}
 use Rattle.frame.proofs.Numbers.{number-listed}
 use Rattle.frame.specs.Order.{first_of, answer_by, ◌gives◌}
-use Rattle.frame.specs.declared.Verdict.TheVariants.{Fine, Refuse}
-use Rattle.frame.specs.declared.Verdict.{Verdict}
 use Rattle.frame.specs.declared.Refusal.TheVariants.{SmallRoom}
-use Rattle.frame.specs.declared.Written.TheVariants.{Refused, Put}
-use Rattle.frame.specs.declared.Written.{Written}
 use Rattle.octets.proofs.Room.{laid-front}
 use Rattle.octets.proofs.Split.{rest-is}
 use Rattle.octets.specs.Octets.{Octets}
@@ -30,6 +27,7 @@ use Rattle.tracer.specs.Listing.{listed}
 use Rattle.tracer.specs.Tracing.{traced_by, list_by, DidTrace}
 use Rattle.tracer.specs.declared.Query.{Query}
 use Rattle.tracer.specs.declared.Traced.{Traced}
+use Rattle.frame.specs.declared.Refusal.{Refusal}
 
 -- the room has the longest text
 
@@ -44,19 +42,19 @@ listed-fits list n room o l h k =
 -- what the tracer answered, said of what was read
 
 module _ (s : List ℕ) (t : Traced) where
-  pub refused-text : (v : Verdict) → t ≡ traced_by no_stores (site_in s) (query_in s) v → 0 < t.number → told_line (ascii "refused ") t.number ≡ answer_text s v
+  pub refused-text : (v : Result (Unit {0}) Refusal) → t ≡ traced_by no_stores (site_in s) (query_in s) v → 0 < t.number → told_line (ascii "refused ") t.number ≡ answer_text s v
   unfolding answer_text
-  refused-text Fine e h = absurd (omega (arith, ap (λ (x : Traced). x.number) e))
-  refused-text (Refuse r) e h = ap (λ (x : Traced). told_line (ascii "refused ") x.number) e
+  refused-text (Ok _) e h = absurd (omega (arith, ap (λ (x : Traced). x.number) e))
+  refused-text (Err r) e h = ap (λ (x : Traced). told_line (ascii "refused ") x.number) e
 
-  pub record ListedText (v : Verdict) (list : List ℕ) : Type 0 where
+  pub record ListedText (v : Result (Unit {0}) Refusal) (list : List ℕ) : Type 0 where
     pub within : t.lines * 3 ≤ length list
     pub told : list_text (take (t.lines * 3) list) ++ told_line (ascii "forwardings ") t.forwardings ≡ answer_text s v
 
-  pub listed-text : (room list : List ℕ) (v : Verdict) → t ≡ traced_by no_stores (site_in s) (query_in s) v → t.number ≤ 0
+  pub listed-text : (room list : List ℕ) (v : Result (Unit {0}) Refusal) → t ≡ traced_by no_stores (site_in s) (query_in s) v → t.number ≤ 0
       → list ≡ over (list_by no_stores (site_in s) (query_in s) v) room → length list ≡ length room → ListedText v list
   unfolding answer_text
-  listed-text room list Fine e h l k =
+  listed-text room list (Ok _) e h l k =
       let L = listed no_stores (site_in s) (query_in s) in
       let n : length L ≡ t.lines * 3 = trace-three-each no_stores (site_in s) (query_in s) ∙ ap (λ (x : Traced). x.lines * 3) (sym e) in
       let w : length list ≡ length L + (length room - length L) = ap length l ∙ rw (length-append, length-drop) in
@@ -64,7 +62,7 @@ module _ (s : List ℕ) (t : Traced) where
         within = omega arith;
         told = rw (l, take_at L (drop (length L) room) (t.lines * 3) n) (ap (λ (x : Traced). list_text L ++ told_line (ascii "forwardings ") x.forwardings) e);
       }
-  listed-text room list (Refuse r) e h l k = absurd (omega (arith, (number-listed r).0, ap (λ (x : Traced). x.number) e))
+  listed-text room list (Err r) e h l k = absurd (omega (arith, (number-listed r).0, ap (λ (x : Traced). x.number) e))
 
 -- the same of the call: the query and the site as they were read, and an array of 768 octets lent
 
@@ -100,28 +98,28 @@ puts-as {a} {b} {at} {r} {room} {after} e x = subst (λ (s : List ℕ). Puts s a
 
 -- the writer's answer
 
-pub unroomed : (s room : List ℕ) → length room < 8192 → Reported s room (Refused SmallRoom) room
+pub unroomed : (s room : List ℕ) → length room < 8192 → Reported s room (Err SmallRoom) room
 unfolding reported
 unroomed s room h = record { answered = rw (lt-ltb (length room) 8192 h); left = refl }
 
-pub roomed : (s room : List ℕ) {r : ℕ} {after : List ℕ} → 8192 ≤ length room → Puts (report_of s) 0 room r after → Reported s room (Put r) after
+pub roomed : (s room : List ℕ) {r : ℕ} {after : List ℕ} → 8192 ≤ length room → Puts (report_of s) 0 room r after → Reported s room (Ok r) after
 unfolding reported
 roomed s room {r} h x =
     let f : 0 + length (report_of s) ≤ length room = x.fits in
     let e : r ≡ 0 + length (report_of s) = x.ends in
-    record { answered = rw (le-ltb (length room) 8192 h) (ap Put (omega arith)); left = x.put ∙ laid-front (report_of s) room (omega arith) }
+    record { answered = rw (le-ltb (length room) 8192 h) (ap Ok (omega arith)); left = x.put ∙ laid-front (report_of s) room (omega arith) }
 
 -- two outcomes that the contract allows coincide
-pub reported-one : {s room : List ℕ} {r₁ r₂ : Written} {a₁ a₂ : List ℕ} → Reported s room r₁ a₁ → Reported s room r₂ a₂ → (r₁ ≡ r₂) × (a₁ ≡ a₂)
+pub reported-one : {s room : List ℕ} {r₁ r₂ : Result ℕ Refusal} {a₁ a₂ : List ℕ} → Reported s room r₁ a₁ → Reported s room r₂ a₂ → (r₁ ≡ r₂) × (a₁ ≡ a₂)
 reported-one {s} {room} {r₁} {r₂} x y =
     let e : r₁ ≡ r₂ = x.answered ∙ sym y.answered in
     (e, x.left ∙ rw e (sym y.left))
 
 -- 13 exactly if the room is too small
-small : (b : Bool) (n : ℕ) → answer_by Refused (Put n) (first_of (b gives SmallRoom ∷ [])) ≡ Refused SmallRoom → b ≡ true
+small : (b : Bool) (n : ℕ) → answer_by Err (Ok n) (first_of (b gives SmallRoom ∷ [])) ≡ Err SmallRoom → b ≡ true
 small true n e = refl
-small false n e = put_refused (sym e)
+small false n e = err-ok (sym e)
 
-pub refused-13 : (s room : List ℕ) → reported s room ≡ Refused SmallRoom ↔ (length room < 8192)
+pub refused-13 : (s room : List ℕ) → reported s room ≡ Err SmallRoom ↔ (length room < 8192)
 unfolding reported
 refused-13 s room = ((λ e. ltb-true (length room) 8192 (small _ _ e)), λ h. rw (lt-ltb (length room) 8192 h))

@@ -1,15 +1,11 @@
 -- Document 01: what the program writes for what it reads.
-use Rattle.std.specs.Prelude.{ℕ, List, [], ◌∷◌, ◌++◌, ◌≡◌, ltb, length, drop}
+use Rattle.std.specs.Prelude.{ℕ, List, [], ◌∷◌, ◌++◌, ◌≡◌, ltb, length, drop, Result, Ok, Err}
 use Rattle.octets.specs.Octets.{octet_at}
 use Rattle.octets.specs.Word.{word_at}
 use Rattle.frame.specs.Order.{Test, first_of, answer_by, ◌gives◌}
-use Rattle.frame.specs.declared.Verdict.TheVariants.{Fine, Refuse}
-use Rattle.frame.specs.declared.Verdict.{Verdict}
 use Rattle.frame.specs.Refusals.{number}
 use Rattle.frame.specs.Writing.{room_after}
 use Rattle.frame.specs.declared.Refusal.TheVariants.{TooFew, LeftOver, SmallRoom}
-use Rattle.frame.specs.declared.Written.{Written}
-use Rattle.frame.specs.declared.Written.TheVariants.{Put, Refused}
 use Rattle.site.specs.Stores.{Stores, stores}
 use Rattle.tracer.specs.Listing.{listed, forwardings}
 use Rattle.tracer.specs.Query.{query_of}
@@ -17,6 +13,7 @@ use Rattle.tracer.specs.Tracing.{trace_tests}
 use Rattle.tracer.specs.declared.Query.{Query}
 use Rattle.report.specs.Ascii.{ascii}
 use Rattle.report.specs.Text.{told_line, list_text}
+use Rattle.frame.specs.declared.Refusal.{Refusal}
 
 -- "The program reads line, kind, destination (2), count, then records to the end, with empty stores."
 abbrev pub query_in : List ℕ → Query
@@ -40,22 +37,22 @@ report_tests s =
     ∷ query_tests s
 
 -- a line for each listed one, and how many forwardings were made; "On refusal it writes `refused N`."
-unfoldable pub answer_text : List ℕ → Verdict → List ℕ
-answer_text s Fine =
+unfoldable pub answer_text : List ℕ → Result (Unit {0}) Refusal → List ℕ
+answer_text s (Ok _) =
     list_text (listed no_stores (site_in s) (query_in s))
     ++ told_line (ascii "forwardings ") (forwardings no_stores (site_in s) (query_in s))
-answer_text s (Refuse r) = told_line (ascii "refused ") (number r)
+answer_text s (Err r) = told_line (ascii "refused ") (number r)
 
 unfoldable pub report_of : List ℕ → List ℕ
 report_of s = answer_text s (first_of (report_tests s))
 
 -- a room of 8,192 octets has every report: 256 lines of at most 28, and a last one of at most 33
-unfoldable pub reported : List ℕ → List ℕ → Written
+unfoldable pub reported : List ℕ → List ℕ → Result ℕ Refusal
 reported s room =
-    answer_by Refused (Put (length (report_of s)))
+    answer_by Err (Ok (length (report_of s)))
     (first_of (ltb (length room) 8192 gives SmallRoom ∷ []))
 
 -- what the call answers and leaves in the room
-pub record Reported (s room : List ℕ) (answer : Written) (after : List ℕ) : Type 0 where
+pub record Reported (s room : List ℕ) (answer : Result ℕ Refusal) (after : List ℕ) : Type 0 where
   pub answered : answer ≡ reported s room
   pub left : after ≡ room_after answer (report_of s) room

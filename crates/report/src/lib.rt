@@ -10,7 +10,7 @@ ghost use Rattle.report.specs.Text.{told_line, list_text};
 ghost use Rattle.report.specs.Stages.{Puts};
 ghost use Rattle.report.specs.Report.{query_in, query_tests, answer_text, report_of, Reported};
 
-use frame::{Refusal, Written};
+use frame::Refusal;
 use tracer::Query;
 
 // "On refusal it writes `refused N`."
@@ -70,11 +70,11 @@ fn put_report(input: &[u8], room: &mut [u8]) -> usize
 }
 
 // The text that answers what was read, at the front of the room.
-pub fn report(input: &[u8], room: &mut [u8]) -> Written
+pub fn report(input: &[u8], room: &mut [u8]) -> Result<usize, Refusal>
     ensures { Reported input.now room.old result room.new }
 {
     if room.len() < 8192 {
-        return Written::Refused(Refusal::SmallRoom);
+        return Err(Refusal::SmallRoom);
     }
-    Written::Put(put_report(input, room))
+    Ok(put_report(input, room))
 }

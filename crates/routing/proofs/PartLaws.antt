@@ -1,14 +1,15 @@
 -- Parts of octets that are too few for a header.
+use Rattle.std.specs.Prelude.{Result, Ok, Err}
 use mathlib.Core.List.{[]}
 use mathlib.Core.Path.{◌≡◌, refl}
 use Rattle.cemi.specs.Reading.{payload_in, information_in}
-use Rattle.cemi.specs.declared.CemiAnswer.TheVariants.{Frame, Refused}
-use Rattle.cemi.specs.declared.CemiAnswer.{CemiAnswer}
+use Rattle.frame.specs.declared.Refusal.{Refusal}
+use Rattle.cemi.specs.declared.Message.{Message}
 
-pub no_payload : (a : CemiAnswer) → payload_in a [] ≡ []
-no_payload (Frame x) = refl
-no_payload (Refused r) = refl
+pub no_payload : (a : Result Message Refusal) → payload_in a [] ≡ []
+no_payload (Ok x) = refl
+no_payload (Err r) = refl
 
-pub no-information : (a : CemiAnswer) → information_in a [] ≡ []
-no-information (Frame x) = refl
-no-information (Refused r) = refl
+pub no-information : (a : Result Message Refusal) → information_in a [] ≡ []
+no-information (Ok x) = refl
+no-information (Err r) = refl

@@ -1,5 +1,6 @@
 -- "A site is well-formed exactly if it and its stores draw none of 15 to 18": no other refusal stands among its tests, and by the law of
 -- tests in order it is well-formed exactly if no test is true.
+use Rattle.std.specs.Prelude.{Ok, Err}
 use Prim.Native.Nat.{ℕ, ◌≤◌, ◌<◌}
 use mathlib.Core.Bool.{Bool, true, false, ◌&&◌}
 use mathlib.Core.List.{List, [], ◌∷◌}
@@ -8,7 +9,7 @@ use mathlib.Core.Path.{◌≡◌, refl}
 use native.Mathlib.Omega.{arith}
 use lib.Dec.{leb}
 use borrow.Author.Tests.{leb-true, ne_eqb}
-use Rattle.frame.proofs.Apart.{fine-refuse}
+use Rattle.frame.proofs.Apart.{ok-err}
 use Rattle.frame.specs.Order.{Test, first_of, NoneOf, FirstIs, ◌gives◌}
 use Rattle.frame.specs.Refusals.{number}
 use Rattle.frame.specs.declared.Refusal.{Refusal}
@@ -16,7 +17,6 @@ use Rattle.octets.proofs.Truth.{and-true}
 use Rattle.site.specs.Records.{records_of, line_of}
 use Rattle.site.specs.Stores.{Stores}
 use Rattle.site.specs.WellFormed.{records_tests, site_tests}
-use Rattle.frame.specs.declared.Verdict.TheVariants.{Fine, Refuse}
 use Rattle.frame.proofs.Order.{passed-iff, refused-iff as order-iff, gives_not}
 
 -- every test gives 15, 16, 17 or 18
@@ -32,14 +32,14 @@ pub site-are : (st : Stores) (site : List ℕ) → are_sites (site_tests st site
 unfolding site_tests
 site-are st site = records-are st [] (records_of site)
 
-pub well-formed-iff : (st : Stores) (site : List ℕ) → first_of (site_tests st site) ≡ Fine ↔ NoneOf (site_tests st site)
+pub well-formed-iff : (st : Stores) (site : List ℕ) → first_of (site_tests st site) ≡ Ok tt ↔ NoneOf (site_tests st site)
 well-formed-iff st site = passed-iff (site_tests st site)
 
-pub refused-iff : (st : Stores) (site : List ℕ) (r : Refusal) → first_of (site_tests st site) ≡ Refuse r ↔ FirstIs (site_tests st site) r
+pub refused-iff : (st : Stores) (site : List ℕ) (r : Refusal) → first_of (site_tests st site) ≡ Err r ↔ FirstIs (site_tests st site) r
 refused-iff st site = order-iff (site_tests st site)
 
-numbered-by : (ts : List Test) (r : Refusal) → are_sites ts ≡ true → first_of ts ≡ Refuse r → (15 ≤ number r) × (number r ≤ 18)
-numbered-by [] r a e = fine-refuse e
+numbered-by : (ts : List Test) (r : Refusal) → are_sites ts ≡ true → first_of ts ≡ Err r → (15 ≤ number r) × (number r ≤ 18)
+numbered-by [] r a e = ok-err e
 numbered-by (true gives q ∷ ts) r a e =
     let h : q ≡ r = cc in
     let x = and-true (leb 15 (number q)) (leb (number q) 18 && are_sites ts) a in
@@ -50,7 +50,7 @@ numbered-by (false gives q ∷ ts) r a e =
     numbered-by ts r (and-true (leb (number q) 18) (are_sites ts) x.1).1 e
 
 -- a refused site draws one of 15 to 18
-pub site-numbers : (st : Stores) (site : List ℕ) (r : Refusal) → first_of (site_tests st site) ≡ Refuse r → (15 ≤ number r) × (number r ≤ 18)
+pub site-numbers : (st : Stores) (site : List ℕ) (r : Refusal) → first_of (site_tests st site) ≡ Err r → (15 ≤ number r) × (number r ≤ 18)
 site-numbers st site r = numbered-by (site_tests st site) r (site-are st site)
 
 -- and no other

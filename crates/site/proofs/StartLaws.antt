@@ -1,4 +1,5 @@
 -- The starts that a survey of a well-formed site notes find the record of each line's coupler.
+use Rattle.std.specs.Prelude.{Ok}
 use Prim.Native.Nat.{ℕ, zero, suc, ◌+◌, ◌-◌, ◌≤◌, ◌<◌}
 use mathlib.Core.Bool.{Bool, true, false, cond}
 use mathlib.Core.List.{List, [], ◌∷◌}
@@ -7,7 +8,6 @@ use native.Mathlib.Omega.{arith}
 use lib.Dec.{eqb}
 use lib.ListN.{length, drop, drop_of_length-le}
 use Rattle.frame.proofs.Order.{passed-iff}
-use Rattle.frame.specs.declared.Verdict.TheVariants.{Fine}
 use Rattle.octets.specs.Octets.{Octets}
 use Rattle.site.proofs.RecordCount.{site-most}
 use Rattle.site.proofs.RecordLaws.{records-end, record-some, records-more, records-cut, by_equal}
@@ -57,7 +57,7 @@ module _ (site : List ℕ) (line : ℕ) where
   unfolding start_of coupler_of
   start-finds h = found-by (length site) 0 no_start (omega arith) ∙ ap (λ (x : List ℕ). coupler_in line x (records_of site)) (no_record site no_start h)
 
-pub survey-notes : (st : Stores) {site : List ℕ} {survey : Surveyed} → DidSurvey st site survey → Octets site → survey.verdict ≡ Fine → Noted site survey.starts
+pub survey-notes : (st : Stores) {site : List ℕ} {survey : Surveyed} → DidSurvey st site survey → Octets site → survey.verdict ≡ Ok tt → Noted site survey.starts
 survey-notes st {site} w o f =
     let fine = sym w.judged ∙ f in
     let most = (site-most st site o ((passed-iff (site_tests st site)).0 fine)).1 in

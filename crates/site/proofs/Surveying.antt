@@ -1,5 +1,6 @@
 -- The walk over the records: those before an index draw no refusal, and `starts` notes for each of their lines where its record starts; so
 -- what is left decides.
+use Rattle.std.specs.Prelude.{Result, Ok, Err}
 use Prim.Native.Nat.{ℕ, suc, ◌+◌, ◌*◌, ◌≤◌, ◌<◌}
 use mathlib.Core.Bool.{Bool, true, not, cond}
 use mathlib.Core.List.{List, [], ◌∷◌, ◌++◌}
@@ -13,8 +14,6 @@ use Rattle.frame.proofs.Order.{first-passed, first-refused, passed-iff}
 use Rattle.frame.specs.Order.{Test, first_of, ◌gives◌}
 use Rattle.frame.specs.declared.Refusal.TheVariants.{WrongRecord}
 use Rattle.frame.specs.declared.Refusal.{Refusal}
-use Rattle.frame.specs.declared.Verdict.TheVariants.{Fine, Refuse}
-use Rattle.frame.specs.declared.Verdict.{Verdict}
 use Rattle.site.proofs.RecordCount.{Counted, counted_none, counted-more, counted-most}
 use Rattle.site.proofs.RecordLaws.{records-end, record-most, records-more, records-cut, by_equal}
 use Rattle.site.specs.Records.{records_of, is_marked, line_of}
@@ -54,12 +53,12 @@ abbrev tests_behind : Stores → List ℕ → List ℕ → List Test
 tests_behind st lines r = record_tests st (is_among (line_of r) lines) r
 
 module _ {starts : List ℕ} {from : ℕ} (w : Apart starts from) (st : Stores) (octets : List ℕ) {line : ℕ} (l : line ≡ line_of octets) (b : line < 256)
-    {judged : Verdict} (j : judged ≡ first_of (record_tests st (not (eqb (get_or starts line 0) no_start)) octets)) where
+    {judged : Result (Unit {0}) Refusal} (j : judged ≡ first_of (record_tests st (not (eqb (get_or starts line 0) no_start)) octets)) where
   by_lines : judged ≡ first_of (tests_behind st w.lines octets)
   by_lines = j ∙ ap (λ (t : Bool). first_of (record_tests st t octets)) (w.seen line b ∙ ap (λ (n : ℕ). is_among n w.lines) l)
 
   -- whatever start is noted
-  pub apart_more : judged ≡ Fine → length octets ≤ 12 → (start : ℕ) → (start ≡ no_start → ⊥) → Apart (set starts line start) (from + length octets)
+  pub apart_more : judged ≡ Ok tt → length octets ≤ 12 → (start : ℕ) → (start ≡ no_start → ⊥) → Apart (set starts line start) (from + length octets)
   apart_more f h start some =
       let none = (passed-iff (tests_behind st w.lines octets)).0 (sym by_lines ∙ f) in
       record {
@@ -84,13 +83,13 @@ unfolding start_of apart_none
 surveying-none st site starts e = record { apart = apart_none starts e; noted = λ n h. rw (noted-none starts e n h) refl; left = refl }
 
 pub surveying-all : {st : Stores} {site starts : List ℕ} {from : ℕ} → Surveying st site starts from → length site ≤ from
-    → DidSurveyBy (records_tests st [] (records_of site)) (records_of site) (record { verdict = Fine; starts = starts })
+    → DidSurveyBy (records_tests st [] (records_of site)) (records_of site) (record { verdict = (Ok tt); starts = starts })
 surveying-all {st} {site} {starts} {from} w h =
     let e = records-end site from h in
-    let fine : first_of (records_tests st [] (records_of site)) ≡ Fine = rw e at w.left in
+    let fine : first_of (records_tests st [] (records_of site)) ≡ (Ok tt) = rw e at w.left in
     record { judged = sym fine; size = w.apart.size; each = λ n hn. rw fine (sym (rw e at (w.noted n hn))) }
 
-pub no-starts : (q : Refusal) (starts : List ℕ) → starts ≡ replicate 256 no_start → DidSurveyBy (true gives q ∷ []) [] (record { verdict = Refuse q; starts = starts })
+pub no-starts : (q : Refusal) (starts : List ℕ) → starts ≡ replicate 256 no_start → DidSurveyBy (true gives q ∷ []) [] (record { verdict = Err q; starts = starts })
 unfolding start_of
 no-starts q starts e = record { judged = refl; size = ap length e; each = noted-none starts e }
 
@@ -99,7 +98,7 @@ pub records-decide : {ts us : List Test} {records : List (List ℕ)} {survey : S
 records-decide e w = record { judged = w.judged ∙ sym e; size = w.size; each = λ n h. rw e (w.each n h) }
 
 -- a site that is refused, by whatever tests
-pub refused-by : {q : Refusal} {survey : Surveyed} (tests : List Test) (records : List (List ℕ)) → first_of tests ≡ Refuse q → DidSurveyBy (true gives q ∷ []) [] survey
+pub refused-by : {q : Refusal} {survey : Surveyed} (tests : List Test) (records : List (List ℕ)) → first_of tests ≡ Err q → DidSurveyBy (true gives q ∷ []) [] survey
     → DidSurveyBy tests records survey
 refused-by tests records f w = record { judged = w.judged ∙ sym f; size = w.size; each = λ n h. rw f (w.each n h) }
 
@@ -113,7 +112,7 @@ surveying-cut {st} {site} {from = from} w q z h =
 module _ {st : Stores} {site starts : List ℕ} {from : ℕ} (w : Surveying st site starts from)
     {tested : List ℕ} (q : tested ≡ record_from site from) (h : 0 < length tested)
     {octets : List ℕ} (r : octets ≡ record_from site from) {line : ℕ} (l : line ≡ line_of octets) (b : line < 256)
-    {judged : Verdict} (j : judged ≡ first_of (record_tests st (not (eqb (get_or starts line 0) no_start)) octets)) where
+    {judged : Result (Unit {0}) Refusal} (j : judged ≡ first_of (record_tests st (not (eqb (get_or starts line 0) no_start)) octets)) where
   abbrev here : List Test
   here = tests_behind st w.apart.lines octets
 
@@ -129,12 +128,12 @@ module _ {st : Stores} {site starts : List ℕ} {from : ℕ} (w : Surveying st s
   unrolled : first_of (records_tests st [] (records_of site)) ≡ first_of (here ++ behind)
   unrolled = w.left ∙ ap (λ (rs : List (List ℕ)). first_of (records_tests st w.apart.lines rs)) split
 
-  pub surveying-refused : (refusal : Refusal) → judged ≡ Refuse refusal → {survey : Surveyed} → DidSurveyBy (true gives refusal ∷ []) [] survey
+  pub surveying-refused : (refusal : Refusal) → judged ≡ Err refusal → {survey : Surveyed} → DidSurveyBy (true gives refusal ∷ []) [] survey
       → DidSurveyBy (records_tests st [] (records_of site)) (records_of site) survey
   surveying-refused refusal f =
       refused-by (records_tests st [] (records_of site)) (records_of site) (unrolled ∙ first-refused here behind refusal (sym (by_lines w.apart st octets l b j) ∙ f))
 
-  pub surveying-more : judged ≡ Fine → Surveying st site (set starts line from) (from + length octets)
+  pub surveying-more : judged ≡ Ok tt → Surveying st site (set starts line from) (from + length octets)
   unfolding apart_more
   surveying-more f = record {
     apart = apart_more w.apart st octets l b j f (record-most site from r) from (λ e. omega (arith, apart-few w.apart, e));

@@ -14,14 +14,14 @@ ghost use Rattle.site.specs.Starts.{DidSurveyBy, DidSurvey, coupler_from};
 ghost use Rattle.site.specs.Stages.{record_both_ways};
 ghost use Rattle.site.specs.Letting.{line_lets_pass_by, MarksBothWays, passage_by};
 
-use frame::{Refusal, Verdict};
+use frame::Refusal;
 use passing::Passage;
 
 // Whether a site is well-formed, and for each of the 256 lines where the record of its coupler starts;
 // FFFFh where there is none, and for every line of a site that is refused.
 #[derive(Clone, Copy)]
 pub struct Surveyed {
-    pub verdict: Verdict,
+    pub verdict: Result<(), Refusal>,
     pub starts: [u16; 256],
 }
 
@@ -46,25 +46,25 @@ fn has_table<'a>(octets: &[u8], project: &'a [u8], own: &'a [u8]) -> bool
     }
 }
 
-fn judge_record<'a>(octets: &[u8], project: &'a [u8], own: &'a [u8], twice: bool) -> Verdict
+fn judge_record<'a>(octets: &[u8], project: &'a [u8], own: &'a [u8], twice: bool) -> Result<(), Refusal>
     ensures { result ≡ first_of (record_tests (stores project.now own.now) twice octets.now) }
 {
     if records::is_marked(octets) {
         let allowed = passing::settings::are_codes(records::codes_of(octets));
         let wrong = (records::line_of(octets) == 0) | !allowed;
         if wrong {
-            return Verdict::Refuse(Refusal::WrongSetting);
+            return Err(Refusal::WrongSetting);
         }
         if has_table(octets, project, own) {
             if twice {
-                return Verdict::Refuse(Refusal::LineTwice);
+                return Err(Refusal::LineTwice);
             }
-            Verdict::Fine
+            Ok(())
         } else {
-            Verdict::Refuse(Refusal::NoTable)
+            Err(Refusal::NoTable)
         }
     } else {
-        Verdict::Refuse(Refusal::WrongRecord)
+        Err(Refusal::WrongRecord)
     }
 }
 
@@ -72,7 +72,7 @@ fn refused(refusal: Refusal) -> Surveyed
     ensures { DidSurveyBy (true gives refusal ∷ []) [] result }
 {
     Surveyed {
-        verdict: Verdict::Refuse(refusal),
+        verdict: Err(refusal),
         starts: [0xffff; 256],
     }
 }
@@ -89,7 +89,7 @@ fn survey_records<'a>(site: &[u8], project: &'a [u8], own: &'a [u8]) -> Surveyed
         let line = records::line_of(octets) as usize;
         let twice = starts[line] != 0xffff;
         let judged = judge_record(octets, project, own, twice);
-        if let Verdict::Refuse(refusal) = judged {
+        if let Err(refusal) = judged {
             return refused(refusal);
         }
         starts[line] = from;
@@ -99,7 +99,7 @@ fn survey_records<'a>(site: &[u8], project: &'a [u8], own: &'a [u8]) -> Surveyed
         return refused(Refusal::WrongRecord);
     }
     Surveyed {
-        verdict: Verdict::Fine,
+        verdict: Ok(()),
         starts,
     }
 }

@@ -1,9 +1,10 @@
 -- A series of frames on the line: the total and the remembered frame handed on from each to the next.
-use Rattle.std.specs.Prelude.{ℕ, List, [], ◌∷◌, ◌≡◌, ℤ}
+use Rattle.std.specs.Prelude.{ℕ, List, [], ◌∷◌, ◌≡◌, ℤ, Result, Ok, Err}
 use Rattle.station.specs.declared.Telegram.{Telegram}
-use Rattle.station.specs.declared.Telegram.TheVariants.{Increment, Repetition, OtherGroup, NoIncrement, Refused}
+use Rattle.station.specs.declared.Telegram.TheVariants.{Increment, Repetition, OtherGroup, NoIncrement}
 use Rattle.station.specs.declared.Tally.{Tally}
 use Rattle.station.specs.Taking.{taken_by, kept_by}
+use Rattle.frame.specs.declared.Refusal.{Refusal}
 
 -- each answer is what taking allows, of the total and the frame that the ones before have left
 abbrev pub Follows : ℕ → ℤ → List ℕ → List (List ℕ) → List Tally → Type 0
@@ -26,12 +27,12 @@ left total [] = total
 left total (t ∷ ts) = left t.total ts
 
 -- the increments counted, as the answers tell them
-abbrev pub counted_in : Telegram → List ℕ → List ℕ
-counted_in (Increment code) rest = code ∷ rest
-counted_in Repetition rest = rest
-counted_in OtherGroup rest = rest
-counted_in NoIncrement rest = rest
-counted_in (Refused r) rest = rest
+abbrev pub counted_in : Result Telegram Refusal → List ℕ → List ℕ
+counted_in (Ok (Increment code)) rest = code ∷ rest
+counted_in (Ok Repetition) rest = rest
+counted_in (Ok OtherGroup) rest = rest
+counted_in (Ok NoIncrement) rest = rest
+counted_in (Err r) rest = rest
 
 abbrev pub counted : List Tally → List ℕ
 counted [] = []

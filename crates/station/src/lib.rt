@@ -5,8 +5,6 @@ ghost use Rattle.std.specs.Prelude.{◌≡◌};
 ghost use Rattle.station.specs.Taking.{telegram_of, telegram_by, telegram_in, summed_by, taken_by};
 
 use frame::{Meaning, Refusal};
-use leak::{Added, Carried};
-use tp1::Tp1Answer;
 
 // What a frame is to the station: an increment of the total, or why it adds nothing.
 #[derive(Clone, Copy)]
@@ -15,48 +13,47 @@ pub enum Telegram {
     Repetition,
     OtherGroup,
     NoIncrement,
-    Refused(Refusal),
 }
 
 // What the frame was, and the total afterwards.
 #[derive(Clone, Copy)]
 pub struct Tally {
-    pub telegram: Telegram,
+    pub telegram: Result<Telegram, Refusal>,
     pub total: i64,
 }
 
-fn of_carried(carried: Carried) -> Telegram
+fn of_carried(carried: Option<u16>) -> Result<Telegram, Refusal>
     ensures { result ≡ telegram_of carried }
 {
     match carried {
-        Carried::Float(code) => Telegram::Increment(code),
-        Carried::Nothing => Telegram::NoIncrement,
+        Some(code) => Ok(Telegram::Increment(code)),
+        None => Ok(Telegram::NoIncrement),
     }
 }
 
 // An accepted frame, beside the one that is remembered (no octets: none).
-fn of_frame(group: u16, remembered: &[u8], octets: &[u8], meaning: Meaning) -> Telegram
+fn of_frame(group: u16, remembered: &[u8], octets: &[u8], meaning: Meaning) -> Result<Telegram, Refusal>
     ensures { result ≡ telegram_by group remembered.now octets.now meaning }
 {
     let addressed = meaning.group & (meaning.destination == group);
     if addressed {
         if coupler::is_repetition(remembered, octets) {
-            return Telegram::Repetition;
+            return Ok(Telegram::Repetition);
         }
-        let payload = tp1::payload(Tp1Answer::Frame(meaning), octets);
+        let payload = tp1::payload(Ok(meaning), octets);
         of_carried(leak::increment(payload))
     } else {
-        Telegram::OtherGroup
+        Ok(Telegram::OtherGroup)
     }
 }
 
 // What octets from the line are, beside the frame that is remembered (no octets: none).
-pub fn recognise(group: u16, remembered: &[u8], octets: &[u8]) -> Telegram
+pub fn recognise(group: u16, remembered: &[u8], octets: &[u8]) -> Result<Telegram, Refusal>
     ensures { result ≡ telegram_in group remembered.now octets.now }
 {
     match tp1::read(octets) {
-        Tp1Answer::Frame(meaning) => of_frame(group, remembered, octets, meaning),
-        Tp1Answer::Refused(refusal) => Telegram::Refused(refusal),
+        Ok(meaning) => of_frame(group, remembered, octets, meaning),
+        Err(refusal) => Err(refusal),
     }
 }
 
@@ -64,15 +61,15 @@ fn summed(total: i64, code: u16) -> Tally
     ensures { result ≡ summed_by total code }
 {
     match leak::add(total, code) {
-        Added::Sum(sum) => {
-            let telegram = Telegram::Increment(code);
+        Ok(sum) => {
+            let telegram = Ok(Telegram::Increment(code));
             Tally {
                 telegram,
                 total: sum,
             }
         }
-        Added::Refused(refusal) => {
-            let telegram = Telegram::Refused(refusal);
+        Err(refusal) => {
+            let telegram = Err(refusal);
             Tally { telegram, total }
         }
     }
@@ -84,10 +81,10 @@ pub fn take(total: i64, group: u16, remembered: &[u8], octets: &[u8]) -> Tally
 {
     let telegram = recognise(group, remembered, octets);
     match telegram {
-        Telegram::Increment(code) => summed(total, code),
-        Telegram::Repetition => Tally { telegram, total },
-        Telegram::OtherGroup => Tally { telegram, total },
-        Telegram::NoIncrement => Tally { telegram, total },
-        Telegram::Refused(_) => Tally { telegram, total },
+        Ok(Telegram::Increment(code)) => summed(total, code),
+        Ok(Telegram::Repetition) => Tally { telegram, total },
+        Ok(Telegram::OtherGroup) => Tally { telegram, total },
+        Ok(Telegram::NoIncrement) => Tally { telegram, total },
+        Err(_) => Tally { telegram, total },
     }
 }

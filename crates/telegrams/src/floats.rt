@@ -1,13 +1,12 @@
 // The two-octet float, read and written.
 use crate::text;
-use leak::{Coded, Value};
 use std::io;
 
 pub(crate) fn run_float(out: &impl Print, given: &[u8]) -> io::Result<()> {
     let value = leak::read_octets(given);
     match value {
-        Value::Hundredths(hundredths) => text::put_signed(out, b"hundredths ", hundredths as i64),
-        Value::Refused(refusal) => text::put_refused(out, refusal.number()),
+        Ok(hundredths) => text::put_signed(out, b"hundredths ", hundredths as i64),
+        Err(refusal) => text::put_refused(out, refusal.number()),
     }
 }
 
@@ -31,10 +30,10 @@ fn number_in(block: &[u8]) -> i64 {
 
 pub(crate) fn run_hundredths(out: &impl Print, given: &[u8]) -> io::Result<()> {
     match leak::write(number_in(given)) {
-        Coded::Code(code) => {
+        Ok(code) => {
             out.write_all(b"code ")?;
             text::put_word(out, code)
         }
-        Coded::Refused(refusal) => text::put_refused(out, refusal.number()),
+        Err(refusal) => text::put_refused(out, refusal.number()),
     }
 }

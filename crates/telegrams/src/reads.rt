@@ -1,15 +1,14 @@
 // The readers, each with the payload that it hands out.
 use crate::text;
-use cemi::{CemiAnswer, Codes, Message};
+use cemi::{Codes, Message};
 use std::io;
-use tp1::Tp1Answer;
-use tunnelling::{AcknowledgementAnswer, RequestAnswer};
+use frame::Refusal;
 
 pub(crate) fn run_tp1(out: &impl Print, given: &[u8]) -> io::Result<()> {
     let answer = tp1::read(given);
     match answer {
-        Tp1Answer::Frame(meaning) => text::put_frame(out, meaning, tp1::payload(answer, given)),
-        Tp1Answer::Refused(refusal) => text::put_refused(out, refusal.number()),
+        Ok(meaning) => text::put_frame(out, meaning, tp1::payload(answer, given)),
+        Err(refusal) => text::put_refused(out, refusal.number()),
     }
 }
 
@@ -29,10 +28,10 @@ pub(crate) fn put_message(out: &impl Print, message: Message, payload: &[u8]) ->
     text::put_frame(out, meaning, payload)
 }
 
-fn put_answer(out: &impl Print, answer: CemiAnswer, payload: &[u8]) -> io::Result<()> {
+fn put_answer(out: &impl Print, answer: Result<Message, Refusal>, payload: &[u8]) -> io::Result<()> {
     match answer {
-        CemiAnswer::Frame(message) => put_message(out, message, payload),
-        CemiAnswer::Refused(refusal) => text::put_refused(out, refusal.number()),
+        Ok(message) => put_message(out, message, payload),
+        Err(refusal) => text::put_refused(out, refusal.number()),
     }
 }
 
@@ -48,7 +47,7 @@ pub(crate) fn run_routing(out: &impl Print, given: &[u8]) -> io::Result<()> {
 
 // The payload of a message that was read from these octets.
 pub(crate) fn payload_of(message: Message, octets: &[u8]) -> &[u8] {
-    cemi::payload(CemiAnswer::Frame(message), octets)
+    cemi::payload(Ok(message), octets)
 }
 
 fn put_head(out: &impl Print, channel: u8, counter: u8) -> io::Result<()> {
@@ -59,7 +58,7 @@ fn put_head(out: &impl Print, channel: u8, counter: u8) -> io::Result<()> {
 pub(crate) fn run_request(out: &impl Print, given: &[u8]) -> io::Result<()> {
     let answer = tunnelling::read_request(given);
     match answer {
-        RequestAnswer::Frame(request) => {
+        Ok(request) => {
             put_head(out, request.channel, request.counter)?;
             out.write_all(b" ")?;
             let message = request.message;
@@ -69,18 +68,18 @@ pub(crate) fn run_request(out: &impl Print, given: &[u8]) -> io::Result<()> {
                 payload_of(message, tunnelling::message(answer, given)),
             )
         }
-        RequestAnswer::Refused(refusal) => text::put_refused(out, refusal.number()),
+        Err(refusal) => text::put_refused(out, refusal.number()),
     }
 }
 
 pub(crate) fn run_acknowledgement(out: &impl Print, given: &[u8]) -> io::Result<()> {
     let answer = tunnelling::read_acknowledgement(given);
     match answer {
-        AcknowledgementAnswer::Frame(acknowledgement) => {
+        Ok(acknowledgement) => {
             put_head(out, acknowledgement.channel, acknowledgement.counter)?;
             out.write_all(b" status")?;
             text::put_octets(out, &[acknowledgement.status])
         }
-        AcknowledgementAnswer::Refused(refusal) => text::put_refused(out, refusal.number()),
+        Err(refusal) => text::put_refused(out, refusal.number()),
     }
 }

@@ -6,14 +6,14 @@ use std::io;
 fn put_tally(out: &impl Print, tally: Tally) -> io::Result<()> {
     let telegram = tally.telegram;
     match telegram {
-        Telegram::Increment(code) => {
+        Ok(Telegram::Increment(code)) => {
             out.write_all(b"counted ")?;
             text::put_word(out, code)?;
         }
-        Telegram::Repetition => out.write_all(b"repetition")?,
-        Telegram::OtherGroup => out.write_all(b"other group")?,
-        Telegram::NoIncrement => out.write_all(b"no increment")?,
-        Telegram::Refused(refusal) => text::put_refused(out, refusal.number())?,
+        Ok(Telegram::Repetition) => out.write_all(b"repetition")?,
+        Ok(Telegram::OtherGroup) => out.write_all(b"other group")?,
+        Ok(Telegram::NoIncrement) => out.write_all(b"no increment")?,
+        Err(refusal) => text::put_refused(out, refusal.number())?,
     }
     text::put_signed(out, b" total ", tally.total)
 }
@@ -22,7 +22,7 @@ fn put_tally(out: &impl Print, tally: Tally) -> io::Result<()> {
 fn kept_after(tally: Tally, kept: usize, at: usize) -> usize {
     let telegram = tally.telegram;
     match telegram {
-        Telegram::Refused(_) => kept,
+        Err(_) => kept,
         _ => at,
     }
 }

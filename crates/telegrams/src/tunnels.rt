@@ -1,10 +1,10 @@
 // Tunnelling: one table of channels, and one call after the other.
 use crate::{lists, reads, text};
-use cemi::{CemiAnswer, Codes, Message};
+use cemi::{Codes, Message};
 use channels::Table;
 use exchange::{Confirmed, Received};
-use frame::Written;
 use std::io;
+use frame::Refusal;
 
 fn put_sent(out: &impl Print, octets: &[u8]) -> io::Result<()> {
     out.write_all(b"sends")?;
@@ -12,9 +12,9 @@ fn put_sent(out: &impl Print, octets: &[u8]) -> io::Result<()> {
 }
 
 // What came of a request, and the acknowledgement that the room has.
-fn put_received(out: &impl Print, answer: Received, given: &[u8], room: &[u8]) -> io::Result<()> {
+fn put_received(out: &impl Print, answer: Result<Received, Refusal>, given: &[u8], room: &[u8]) -> io::Result<()> {
     match answer {
-        Received::Delivered(request) => {
+        Ok(Received::Delivered(request)) => {
             out.write_all(b"delivered ")?;
             let message = request.message;
             let payload = reads::payload_of(message, exchange::message(answer, given));
@@ -22,11 +22,11 @@ fn put_received(out: &impl Print, answer: Received, given: &[u8], room: &[u8]) -
             out.write_all(b" ")?;
             put_sent(out, room)
         }
-        Received::Again => {
+        Ok(Received::Again) => {
             out.write_all(b"again ")?;
             put_sent(out, room)
         }
-        Received::Refused(refusal) => text::put_refused(out, refusal.number()),
+        Err(refusal) => text::put_refused(out, refusal.number()),
     }
 }
 
@@ -48,8 +48,8 @@ fn send_message(
     let mut room = [0u8; 273];
     let written = exchange::send(table, channel, message, payload, &mut room);
     match written {
-        Written::Put(size) => put_sent(out, lists::front(&room, size)),
-        Written::Refused(refusal) => text::put_refused(out, refusal.number()),
+        Ok(size) => put_sent(out, lists::front(&room, size)),
+        Err(refusal) => text::put_refused(out, refusal.number()),
     }
 }
 
@@ -58,11 +58,11 @@ fn run_send(out: &impl Print, table: Table, given: &[u8]) -> io::Result<Table> {
     let octets = lists::behind_first(given);
     let answer = cemi::read(Codes::All, octets);
     match answer {
-        CemiAnswer::Frame(message) => {
+        Ok(message) => {
             let payload = cemi::payload(answer, octets);
             send_message(out, table, octets::octet(given, 0), message, payload)?;
         }
-        CemiAnswer::Refused(refusal) => text::put_refused(out, refusal.number())?,
+        Err(refusal) => text::put_refused(out, refusal.number())?,
     }
     Ok(table)
 }
@@ -71,9 +71,9 @@ fn run_confirm(out: &impl Print, table: Table, given: &[u8]) -> io::Result<Table
     let settled = exchange::confirm(table, given);
     let answer = settled.answer;
     match answer {
-        Confirmed::Raised => out.write_all(b"raised")?,
-        Confirmed::Kept => out.write_all(b"kept")?,
-        Confirmed::Refused(refusal) => text::put_refused(out, refusal.number())?,
+        Ok(Confirmed::Raised) => out.write_all(b"raised")?,
+        Ok(Confirmed::Kept) => out.write_all(b"kept")?,
+        Err(refusal) => text::put_refused(out, refusal.number())?,
     }
     Ok(settled.table)
 }

@@ -1,4 +1,3 @@
-pub mod Apart
 pub mod Size
 pub mod LayoutLaws
 pub mod Refusals

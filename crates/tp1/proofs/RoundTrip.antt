@@ -1,5 +1,6 @@
 -- The layout and the reader are inverse: what is laid out is read back as just that, and what is accepted was laid out.
 -- Both go by the format: the tests of the order are facts about head, payload and check octet.
+use Rattle.std.specs.Prelude.{Result, Ok}
 use Prim.Native.Nat.{ℕ, suc, ◌+◌, ◌-◌, ◌%◌, ◌≤◌, ◌<◌}
 use mathlib.Core.Bool.{Bool, true, false, not}
 use mathlib.Core.List.{List, [], ◌∷◌, ◌++◌, append_assoc}
@@ -25,8 +26,7 @@ use Rattle.tp1.proofs.LayoutLaws.{head-extended, head-standard, length-head, len
 use Rattle.tp1.proofs.Refusals.{accepted-iff}
 use Rattle.tp1.specs.Layout.{standard_head, extended_head, head, head_of, sealed, tp1_octets}
 use Rattle.tp1.specs.Reading.{is_extended, head_size, is_other_format, is_escape, frame_size, is_checked, meaning_in, tp1_tests, read_tp1, payload_in}
-use Rattle.tp1.specs.declared.Tp1Answer.TheVariants.{Frame}
-use Rattle.tp1.specs.declared.Tp1Answer.{Tp1Answer}
+use Rattle.frame.specs.declared.Refusal.{Refusal}
 
 -- octets with the check octet of all before it: seen at the end, and put together again
 
@@ -134,7 +134,7 @@ laid-octets m p r = go m.extended refl
     go false e = rw (head-standard m (length p - 1) e) (laid-standard m p r e)
 
 -- a valid meaning and payload's layout is accepted with just that meaning ..
-pub laid-read : (m : Meaning) (p : List ℕ) → Valid m p → read_tp1 (tp1_octets m p) ≡ Frame m
+pub laid-read : (m : Meaning) (p : List ℕ) → Valid m p → read_tp1 (tp1_octets m p) ≡ Ok m
 unfolding head_size tp1_octets
 laid-read m p v =
     let s : List ℕ = tp1_octets m p in
@@ -150,7 +150,7 @@ laid-read m p v =
     )
 
 -- .. and payload
-pub laid-payload : (m : Meaning) (p : List ℕ) → payload_in (Frame m) (tp1_octets m p) ≡ p
+pub laid-payload : (m : Meaning) (p : List ℕ) → payload_in (Ok m) (tp1_octets m p) ≡ p
 unfolding tp1_octets sealed
 laid-payload m p =
     let H : List ℕ = head m (length p - 1) in
@@ -163,8 +163,8 @@ laid-payload m p =
 
 -- accepted octets: the layout of a valid meaning and payload, the payload being the part that is handed out
 pub record Sound (s : List ℕ) (m : Meaning) : Type 0 where
-  pub layout : s ≡ tp1_octets m (payload_in (Frame m) s)
-  pub valid : Valid m (payload_in (Frame m) s)
+  pub layout : s ≡ tp1_octets m (payload_in (Ok m) s)
+  pub valid : Valid m (payload_in (Ok m) s)
 
 -- the facts from which this follows, of a head of n octets and a payload of k
 record Found (s : List ℕ) (m : Meaning) (n k : ℕ) : Type 0 where
@@ -181,7 +181,7 @@ unfolding tp1_octets
 sound s m n k o f =
     let p : List ℕ = take k (drop n s) in
     let j : length s - 1 - n ≡ k = omega (arith, f.size) in
-    let e : payload_in (Frame m) s ≡ p = rw (f.format, j) in
+    let e : payload_in (Ok m) s ≡ p = rw (f.format, j) in
     let z : length p ≡ k = length-take-le k (drop n s) (rw length-drop (omega (arith, f.size))) in
     let top : firsts n 0 s ≡ head m (length p - 1) = f.top ∙ ap (λ (i : ℕ). head m (i - 1)) (sym z) in
     let ok : Valid m p = record { ranges = rw z (ranged m k f.ranges); source = f.source; destination = f.destination; octets = octets-take k (drop n s) (octets-drop n s o) } in
@@ -236,7 +236,7 @@ module _ (s : List ℕ) (o : Octets s) (x : NoneOf (tp1_tests s)) where
         destination = word_below (octet_at s 3) (octet_at s 4) (o 3) (o 4);
       })
 
-pub read-laid : (s : List ℕ) (m : Meaning) → Octets s → read_tp1 s ≡ Frame m → Sound s m
+pub read-laid : (s : List ℕ) (m : Meaning) → Octets s → read_tp1 s ≡ Ok m → Sound s m
 read-laid s m o e = go (is_extended s) refl
   where
     a : NoneOf (tp1_tests s) × (meaning_in s ≡ m)
@@ -249,5 +249,5 @@ read-laid s m o e = go (is_extended s) refl
 -- one layout has one meaning and one payload
 pub layout-one : (m n : Meaning) (p q : List ℕ) → Valid m p → Valid n q → tp1_octets m p ≡ tp1_octets n q → (m ≡ n) × (p ≡ q)
 layout-one m n p q v w e =
-    let f : Frame m ≡ Frame n = sym (laid-read m p v) ∙ ap read_tp1 e ∙ laid-read n q w in
-    (cc, sym (laid-payload m p) ∙ ap (payload_in (Frame m)) e ∙ ap (λ (a : Tp1Answer). payload_in a (tp1_octets n q)) f ∙ laid-payload n q)
+    let f : Ok m ≡ Ok n = sym (laid-read m p v) ∙ ap read_tp1 e ∙ laid-read n q w in
+    (cc, sym (laid-payload m p) ∙ ap (payload_in (Ok m)) e ∙ ap (λ (a : Result Meaning Refusal). payload_in a (tp1_octets n q)) f ∙ laid-payload n q)

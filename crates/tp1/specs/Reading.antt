@@ -1,5 +1,5 @@
 -- Document 01: "Order, TP1: no octet (1), control (2), fewer than 6 (standard) or 7 (extended) octets (1), 3, 4, 1, 5, 6."
-use Rattle.std.specs.Prelude.{ℕ, ◌+◌, ◌-◌, ◌%◌, List, [], ◌∷◌, Bool, cond, not, ◌&&◌, length, take, drop, ltb, eqb}
+use Rattle.std.specs.Prelude.{ℕ, ◌+◌, ◌-◌, ◌%◌, List, [], ◌∷◌, Bool, cond, not, ◌&&◌, length, take, drop, ltb, eqb, Result, Ok, Err}
 use Rattle.octets.specs.Octets.{octet_at}
 use Rattle.octets.specs.Word.{word_at}
 use Rattle.octets.specs.Check.{check_octet}
@@ -7,9 +7,8 @@ use Rattle.frame.specs.declared.Meaning.{Meaning}
 use Rattle.frame.specs.declared.Refusal.TheVariants.{TooFew, NotData, OtherFormat, Escape, LeftOver, WrongCheck}
 use Rattle.frame.specs.Order.{Test, ◌gives◌, first_of, answer_by}
 use Rattle.frame.specs.Fields.{is_control, meaning_of, fields_meaning}
-use Rattle.tp1.specs.declared.Tp1Answer.{Tp1Answer}
-use Rattle.tp1.specs.declared.Tp1Answer.TheVariants.{Frame, Refused}
 use Rattle.tp1.specs.Layout.{head_of}
+use Rattle.frame.specs.declared.Refusal.{Refusal}
 
 -- "Bit 7: 1 standard, 0 extended"
 unfoldable pub is_extended : List ℕ → Bool
@@ -54,15 +53,15 @@ tp1_tests s =
     ∷ not (is_checked s) gives WrongCheck
     ∷ []
 
-unfoldable pub read_tp1 : List ℕ → Tp1Answer
-read_tp1 s = answer_by Refused (Frame (meaning_in s)) (first_of (tp1_tests s))
+unfoldable pub read_tp1 : List ℕ → Result Meaning Refusal
+read_tp1 s = answer_by Err (Ok (meaning_in s)) (first_of (tp1_tests s))
 
 -- "payload (TPCI onward ..)": between the head and the check octet. "With a refusal both are empty."
-abbrev pub payload_in : Tp1Answer → List ℕ → List ℕ
-payload_in (Frame m) s = take (length s - 1 - head_of m.extended) (drop (head_of m.extended) s)
-payload_in (Refused r) s = []
+abbrev pub payload_in : Result Meaning Refusal → List ℕ → List ℕ
+payload_in (Ok m) s = take (length s - 1 - head_of m.extended) (drop (head_of m.extended) s)
+payload_in (Err r) s = []
 
 -- where that part starts; an empty one, at the start
-abbrev pub payload_at : Tp1Answer → List ℕ → ℕ
-payload_at (Frame m) s = cond (ltb (head_of m.extended) (length s)) (head_of m.extended) 0
-payload_at (Refused r) s = 0
+abbrev pub payload_at : Result Meaning Refusal → List ℕ → ℕ
+payload_at (Ok m) s = cond (ltb (head_of m.extended) (length s)) (head_of m.extended) 0
+payload_at (Err r) s = 0

@@ -11,33 +11,27 @@ ghost use Rattle.frame.specs.Writing.{Wrote};
 ghost use Rattle.tp1.specs.Layout.{tp1_octets};
 ghost use Rattle.tp1.specs.Reading.{meaning_in, read_tp1, payload_at, payload_in};
 
-use frame::{Meaning, Refusal, Written};
-
-#[derive(Clone, Copy)]
-pub enum Tp1Answer {
-    Frame(Meaning),
-    Refused(Refusal),
-}
+use frame::{Meaning, Refusal};
 
 // What the octets mean as a frame, or the first refusal of document 01's order.
-pub fn read(octets: &[u8]) -> Tp1Answer
+pub fn read(octets: &[u8]) -> Result<Meaning, Refusal>
     ensures { result ≡ read_tp1 octets.now }
 {
     if octets.len() == 0 {
-        Tp1Answer::Refused(Refusal::TooFew)
+        Err(Refusal::TooFew)
     } else if reading::is_control(octets[0]) {
         reading::read_head(octets)
     } else {
-        Tp1Answer::Refused(Refusal::NotData)
+        Err(Refusal::NotData)
     }
 }
 
 // "The payload is handed out as the very octets received, not copied": TPCI onward, as a part of the
 // octets that were read with this answer; empty with a refusal.
-pub fn payload(answer: Tp1Answer, octets: &[u8]) -> &[u8]
+pub fn payload(answer: Result<Meaning, Refusal>, octets: &[u8]) -> &[u8]
     ensures { PartAt octets.entry result (payload_at answer octets.now) (payload_in answer octets.now) }
 {
-    let Tp1Answer::Frame(meaning) = answer else {
+    let Ok(meaning) = answer else {
         return &octets[..0];
     };
     let start = reading::head_of(meaning.extended);
@@ -57,17 +51,17 @@ pub fn meaning_in(octets: &[u8]) -> Meaning
 }
 
 // Writes the frame at the front of the room, or refuses by 14, then 13.
-pub fn write(meaning: Meaning, payload: &[u8], room: &mut [u8]) -> Written
+pub fn write(meaning: Meaning, payload: &[u8], room: &mut [u8]) -> Result<usize, Refusal>
     ensures { Wrote (in_range meaning (length payload.now)) (tp1_octets meaning payload.now) room.old result room.new }
 {
     if frame::in_range(meaning, payload.len()) {
         let size = reading::head_of(meaning.extended) + payload.len() + 1;
         if room.len() < size {
-            return Written::Refused(Refusal::SmallRoom);
+            return Err(Refusal::SmallRoom);
         }
         writing::put(meaning, payload, room);
-        Written::Put(size)
+        Ok(size)
     } else {
-        Written::Refused(Refusal::OutOfRange)
+        Err(Refusal::OutOfRange)
     }
 }

@@ -5,7 +5,6 @@ ghost use Rattle.tp1.specs.Layout.{head_of};
 ghost use Rattle.tp1.specs.Reading.{is_extended, head_size, is_other_format, is_escape, frame_size, is_checked, meaning_in};
 ghost use Rattle.tp1.specs.Stages.{read_from};
 
-use crate::Tp1Answer;
 use frame::{Meaning, Refusal};
 
 pub(crate) fn is_control(control: u8) -> bool
@@ -85,32 +84,32 @@ pub(crate) fn meaning_in(octets: &[u8]) -> Meaning
 }
 
 // From the sixth test of the order on.
-fn read_end(octets: &[u8]) -> Tp1Answer
+fn read_end(octets: &[u8]) -> Result<Meaning, Refusal>
     ensures { result ≡ read_from 5 octets.now }
 {
     let size = frame_size(octets);
     if octets.len() < size {
-        Tp1Answer::Refused(Refusal::TooFew)
+        Err(Refusal::TooFew)
     } else if size < octets.len() {
-        Tp1Answer::Refused(Refusal::LeftOver)
+        Err(Refusal::LeftOver)
     } else if is_checked(octets) {
-        Tp1Answer::Frame(meaning_in(octets))
+        Ok(meaning_in(octets))
     } else {
-        Tp1Answer::Refused(Refusal::WrongCheck)
+        Err(Refusal::WrongCheck)
     }
 }
 
 // From the third test of the order on.
-pub(crate) fn read_head(octets: &[u8]) -> Tp1Answer
+pub(crate) fn read_head(octets: &[u8]) -> Result<Meaning, Refusal>
     ensures { result ≡ read_from 2 octets.now }
 {
     let least = head_of(is_extended(octets));
     if octets.len() < least {
-        Tp1Answer::Refused(Refusal::TooFew)
+        Err(Refusal::TooFew)
     } else if is_other_format(octets) {
-        Tp1Answer::Refused(Refusal::OtherFormat)
+        Err(Refusal::OtherFormat)
     } else if is_escape(octets) {
-        Tp1Answer::Refused(Refusal::Escape)
+        Err(Refusal::Escape)
     } else {
         read_end(octets)
     }

@@ -4,7 +4,6 @@
 
 ghost use Rattle.std.specs.Prelude.{◌≤◌, length, IfOk};
 
-use frame::Written;
 use std::io;
 use std::io::Read;
 
@@ -28,7 +27,7 @@ fn main(rt: HostRuntime) -> io::Result<()> {
     let read = read_full(&mut rt.stdin(), &mut input)?;
     let mut room = [0u8; 8192];
     let written = report::report(&input[..read], &mut room);
-    if let Written::Put(size) = written {
+    if let Ok(size) = written {
         if size <= 8192 {
             rt.write_all(&room[..size])?;
         }

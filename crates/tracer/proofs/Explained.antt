@@ -1,6 +1,7 @@
 -- What the explanation says: a line is reached exactly if it is listed; otherwise every coupler before the one named is fitted and lets the
 -- telegram pass, the count lasts for them, and that one does not hand it on, for the reason given. A path has one such coupler. The walk
 -- carries the count, the list the couplers crossed.
+use Rattle.std.specs.Prelude.{Result, Ok, Err, Some, None}
 use Prim.Native.Nat.{ℕ, suc, ◌+◌, ◌≤◌, ◌<◌}
 use mathlib.Core.Bool.{Bool, true, false, not, ◌&&◌}
 use mathlib.Core.List.{List, [], ◌∷◌, ◌++◌}
@@ -27,14 +28,11 @@ use Rattle.tracer.specs.Listing.{crossing_passes, all_pass, lasts, is_listed}
 use Rattle.tracer.specs.declared.Query.{Query}
 use Rattle.tracer.specs.Reaching.{handed, along, reach}
 use Rattle.tracer.specs.Why.{walked, why_by, why_of}
-use Rattle.tracer.specs.declared.Explanation.TheVariants.{Reached, NotReached}
 use Rattle.tracer.specs.declared.Stop.{Stop}
-use Rattle.tracer.specs.declared.Walk.TheVariants.{Going, Stopped}
-use Rattle.tracer.specs.declared.Walk.{Walk}
 
-abbrev pub is_going : Walk → Bool
-is_going (Going count) = true
-is_going (Stopped stop) = false
+abbrev pub is_going : Result ℕ Stop → Bool
+is_going (Ok count) = true
+is_going (Err stop) = false
 
 path-four : (s t : ℕ) → 0 + length (path s t) ≤ 4
 unfolding distance
@@ -44,7 +42,7 @@ lasts-fewer : (c d n : ℕ) → d ≤ n → lasts c n ≡ true → lasts c d ≡
 lasts-fewer c d n h e = (lasts-iff c d).1 (⊎_elim (λ s. inl s) (λ l. inr (omega (arith, l))) ((lasts-iff c n).0 e))
 
 stopped-stays : (st : Stores) (site : List ℕ) (q : Query) (stop : Stop) (xs : List Crossing)
-    → walked st site q (Stopped stop) xs ≡ Stopped stop
+    → walked st site q (Err stop) xs ≡ Err stop
 stopped-stays st site q stop [] = refl
 stopped-stays st site q stop (x ∷ xs) = stopped-stays st site q stop xs
 
@@ -55,7 +53,7 @@ rest-same : {A : Type 0} {x y : A} {xs ys : List A} → x ∷ xs ≡ y ∷ ys �
 rest-same e = ap (λ l. drop 1 l) e
 
 module _ (st : Stores) (site : List ℕ) (q : Query) where
-  abbrev walk : Walk → List Crossing → Walk
+  abbrev walk : Result ℕ Stop → List Crossing → Result ℕ Stop
   walk w xs = walked st site q w xs
 
   abbrev passage : Crossing → ℕ → Passage
@@ -63,7 +61,7 @@ module _ (st : Stores) (site : List ℕ) (q : Query) where
 
   -- after d couplers, with the count that is left, on a path of at most four
   going : (m : q.count ≤ 7) (d : ℕ) (xs : List Crossing) → d + length xs ≤ 4 → lasts q.count d ≡ true
-      → is_going (walk (Going (on_arrival q d)) xs) ≡ ltb 0 (along (crossing_passes st site q) q.count (suc d) xs)
+      → is_going (walk (Ok (on_arrival q d)) xs) ≡ ltb 0 (along (crossing_passes st site q) q.count (suc d) xs)
   unfolding handed
   going m d [] few e = sym (lt-ltb 0 (suc d) (omega arith))
   going m d (x ∷ xs) few e =
@@ -81,26 +79,26 @@ module _ (st : Stores) (site : List ℕ) (q : Query) where
       (ap is_going (stopped-stays st site q (record { coupler = x.line; direction = x.direction; reason = p }) xs)
       ∙ sym (ap (λ (l : ℕ). ltb 0 l) (along-zero (crossing_passes st site q) q.count xs))))
 
-  going-listed : (m : q.count ≤ 7) (line : ℕ) → is_going (walk (Going q.count) (path q.start line)) ≡ is_listed (crossing_passes st site q) q.start q.count line
+  going-listed : (m : q.count ≤ 7) (line : ℕ) → is_going (walk (Ok q.count) (path q.start line)) ≡ is_listed (crossing_passes st site q) q.start q.count line
   unfolding reach
   going-listed m line =
-      ap (λ (c : ℕ). is_going (walk (Going c) (path q.start line))) (sym (arrival-none q))
+      ap (λ (c : ℕ). is_going (walk (Ok c) (path q.start line))) (sym (arrival-none q))
       ∙ going m 0 (path q.start line) (path-four q.start line) (lasts-none q.count)
       ∙ reach-reached (crossing_passes st site q) q.start q.count line
 
-  reached-going : (w : Walk) → why_by w ≡ Reached → is_going w ≡ true
-  reached-going (Going count) e = refl
-  reached-going (Stopped stop) e = let z : ◌≡◌ {A = ℕ} 0 1 = cc in absurd (omega arith)
+  reached-going : (w : Result ℕ Stop) → why_by w ≡ Ok None → is_going w ≡ true
+  reached-going (Ok count) e = refl
+  reached-going (Err stop) e = let z : ◌≡◌ {A = ℕ} 0 1 = cc in absurd (omega arith)
 
-  going-reached : (w : Walk) → is_going w ≡ true → why_by w ≡ Reached
-  going-reached (Going count) e = refl
-  going-reached (Stopped stop) e = let z : ◌≡◌ {A = ℕ} 0 1 = cc in absurd (omega arith)
+  going-reached : (w : Result ℕ Stop) → is_going w ≡ true → why_by w ≡ Ok None
+  going-reached (Ok count) e = refl
+  going-reached (Err stop) e = let z : ◌≡◌ {A = ℕ} 0 1 = cc in absurd (omega arith)
 
   -- "'reached' exactly for the listed lines"
-  pub reached-iff : q.count ≤ 7 → (line : ℕ) → why_of st site q line ≡ Reached ↔ (is_listed (crossing_passes st site q) q.start q.count line ≡ true)
+  pub reached-iff : q.count ≤ 7 → (line : ℕ) → why_of st site q line ≡ Ok None ↔ (is_listed (crossing_passes st site q) q.start q.count line ≡ true)
   unfolding why_of
   reached-iff m line =
-      let w = walk (Going q.count) (path q.start line) in
+      let w = walk (Ok q.count) (path q.start line) in
       ((λ e. sym (going-listed m line) ∙ reached-going w e), (λ e. going-reached w (going-listed m line ∙ e)))
 
   -- the telegram comes to this coupler, d having been crossed before those ahead: they let it pass, and the count lasts for them; this one does
@@ -122,7 +120,7 @@ module _ (st : Stores) (site : List ℕ) (q : Query) where
     pub stops : StopsBehind crossed ahead here
     pub told : stop ≡ stop_of here (crossed + length ahead)
 
-  stopped-at : (m : q.count ≤ 7) (d : ℕ) (xs : List Crossing) (stop : Stop) → d + length xs ≤ 4 → lasts q.count d ≡ true → walk (Going (on_arrival q d)) xs ≡ Stopped stop → StoppedAt d xs stop
+  stopped-at : (m : q.count ≤ 7) (d : ℕ) (xs : List Crossing) (stop : Stop) → d + length xs ≤ 4 → lasts q.count d ≡ true → walk (Ok (on_arrival q d)) xs ≡ Err stop → StoppedAt d xs stop
   stopped-at m d [] stop few h e = let z : ◌≡◌ {A = ℕ} 0 1 = cc in absurd (omega arith)
   stopped-at m d (x ∷ xs) stop few h e =
       let k = on_arrival q d in
@@ -130,7 +128,7 @@ module _ (st : Stores) (site : List ℕ) (q : Query) where
       (λ t.
       let a = and-true (crossing_passes st site q x) (not (eqb k 0)) (sym (passage-lets st q.kind q.destination (records_of site) x.direction x.line k) ∙ t) in
       let l : lasts q.count (suc d) ≡ true = sym (left-lasts q d (omega arith) h) ∙ a.1 in
-      let s = stopped-at m (suc d) xs stop (omega arith) l (ap (λ (c : ℕ). walk (Going c) xs) (sym (hopped-more q d m)) ∙ (rw t at e)) in
+      let s = stopped-at m (suc d) xs stop (omega arith) l (ap (λ (c : ℕ). walk (Ok c) xs) (sym (hopped-more q d m)) ∙ (rw t at e)) in
       let j : suc d + length s.ahead ≡ d + suc (length s.ahead) = omega arith in
       record {
         ahead = x ∷ s.ahead;
@@ -141,7 +139,7 @@ module _ (st : Stores) (site : List ℕ) (q : Query) where
         told = s.told ∙ ap (stop_of s.here) j;
       })
       (λ n.
-      let f : Stopped (stop_of x d) ≡ Stopped stop = sym (stopped-stays st site q (stop_of x d) xs) ∙ (rw n at e) in
+      let f : Err (stop_of x d) ≡ Err stop = sym (stopped-stays st site q (stop_of x d) xs) ∙ (rw n at e) in
       let g : stop ≡ stop_of x d = cc in
       let j : d ≡ d + 0 = omega arith in
       record {
@@ -153,16 +151,16 @@ module _ (st : Stores) (site : List ℕ) (q : Query) where
         told = g ∙ ap (stop_of x) j;
       })
 
-  stop-of : (w : Walk) → is_going w ≡ false → (stop : Stop) × (w ≡ Stopped stop)
-  stop-of (Going count) e = never e
-  stop-of (Stopped stop) e = (stop, refl)
+  stop-of : (w : Result ℕ Stop) → is_going w ≡ false → (stop : Stop) × (w ≡ Err stop)
+  stop-of (Ok count) e = never e
+  stop-of (Err stop) e = (stop, refl)
 
   -- "all couplers before the one it names are fitted and pass, and that one does not, for the reason given"
-  pub not-reached : q.count ≤ 7 → (line : ℕ) → is_listed (crossing_passes st site q) q.start q.count line ≡ false → (stop : Stop) × ((why_of st site q line ≡ NotReached stop) × StoppedAt 0 (path q.start line) stop)
+  pub not-reached : q.count ≤ 7 → (line : ℕ) → is_listed (crossing_passes st site q) q.start q.count line ≡ false → (stop : Stop) × ((why_of st site q line ≡ Ok (Some stop)) × StoppedAt 0 (path q.start line) stop)
   unfolding why_of
   not-reached m line e =
-      let w = stop-of (walk (Going q.count) (path q.start line)) (going-listed m line ∙ e) in
-      (w.0, (ap why_by w.1, stopped-at m 0 (path q.start line) w.0 (path-four q.start line) (lasts-none q.count) (ap (λ (c : ℕ). walk (Going c) (path q.start line)) (arrival-none q) ∙ w.1)))
+      let w = stop-of (walk (Ok q.count) (path q.start line)) (going-listed m line ∙ e) in
+      (w.0, (ap why_by w.1, stopped-at m 0 (path q.start line) w.0 (path-four q.start line) (lasts-none q.count) (ap (λ (c : ℕ). walk (Ok c) (path q.start line)) (arrival-none q) ∙ w.1)))
 
   -- a coupler that lets the telegram pass hands it on if the count lasts for one more
   hands_on : (x : Crossing) (d n : ℕ) → crossing_passes st site q x ≡ true → d < n → n ≤ 4 → lasts q.count n ≡ true → does_pass (passage x (on_arrival q d)) ≡ true

@@ -1,5 +1,6 @@
 -- The marks of the couplers, how the telegram spreads over them and the list of the lines reached, put together: that list is the
 -- definition's. Marks are known of the lines below 256, and a path between two of those crosses no other coupler.
+use Rattle.std.specs.Prelude.{Result, Ok, Err}
 use Prim.Native.Nat.{ℕ, zero, suc, ◌-◌, ◌≤◌, ◌<◌}
 use mathlib.Core.Bool.{Bool, true}
 use mathlib.Core.List.{List}
@@ -7,7 +8,6 @@ use mathlib.Core.Path.{◌≡◌, refl, sym, ap, ◌∙◌}
 use native.Mathlib.Omega.{arith}
 use lib.ListN.{length, get_or}
 use borrow.Author.Tests.{ltb-false}
-use Rattle.frame.specs.declared.Verdict.{Verdict}
 use Rattle.frame.proofs.Order.{passed-iff, first-passed, first-refused}
 use Rattle.frame.specs.Order.{first_of}
 use Rattle.frame.specs.declared.Refusal.{Refusal}
@@ -31,7 +31,6 @@ use Rattle.tracer.specs.Reaching.{reach, marked, is_forwarded_to, Spread, is_rea
 use Rattle.tracer.specs.Tracing.{asking_tests, trace_tests, refused_trace, traced_by, list_by, DidTrace}
 use Rattle.tracer.specs.Reaching.{DidList}
 use Rattle.tracer.specs.declared.Traced.{Traced}
-use Rattle.frame.specs.declared.Verdict.TheVariants.{Fine, Refuse}
 
 each_same : (f g : ℕ → List ℕ) (n : ℕ) → ((i : ℕ) → i < n → f i ≡ g i) → each_below f n ≡ each_below g n
 each_same f g zero h = refl
@@ -133,26 +132,26 @@ module _ (st : Stores) (site : List ℕ) (q : Query) {downward upward : List Boo
         }
 
 -- the query's verdict, then the site's, and by them the refusal or the list
-pub asked-room : (q : Query) {room : ℕ} → first_of (asking_tests q room) ≡ Fine → 768 ≤ room
+pub asked-room : (q : Query) {room : ℕ} → first_of (asking_tests q room) ≡ Ok tt → 768 ≤ room
 asked-room q {room} e = ltb-false room 768 ((passed-iff (asking_tests q room)).0 e).1.0
 
 module _ (st : Stores) (site : List ℕ) (q : Query) (room : List ℕ) where
-  did-trace : {answer : Traced} {room' : List ℕ} (v : Verdict) → first_of (trace_tests st site q (length room)) ≡ v
+  did-trace : {answer : Traced} {room' : List ℕ} (v : Result (Unit {0}) Refusal) → first_of (trace_tests st site q (length room)) ≡ v
       → answer ≡ traced_by st site q v → room' ≡ over (list_by st site q v) room → DidTrace st site q room answer room'
-  did-trace v e a l = record { answered = a ∙ ap (traced_by st site q) (sym e); left = l ∙ ap (λ (v : Verdict). over (list_by st site q v) room) (sym e) }
+  did-trace v e a l = record { answered = a ∙ ap (traced_by st site q) (sym e); left = l ∙ ap (λ (v : Result (Unit {0}) Refusal). over (list_by st site q v) room) (sym e) }
 
-  pub asked-refused : {r : Refusal} {answer : Traced} → first_of (asking_tests q (length room)) ≡ Refuse r → answer ≡ refused_trace r → DidTrace st site q room answer room
-  asked-refused {r} e a = did-trace (Refuse r) (first-refused (asking_tests q (length room)) (site_tests st site) r e) a refl
+  pub asked-refused : {r : Refusal} {answer : Traced} → first_of (asking_tests q (length room)) ≡ Err r → answer ≡ refused_trace r → DidTrace st site q room answer room
+  asked-refused {r} e a = did-trace (Err r) (first-refused (asking_tests q (length room)) (site_tests st site) r e) a refl
 
-  module _ (e : first_of (asking_tests q (length room)) ≡ Fine) {survey : Surveyed} (s : DidSurvey st site survey) where
+  module _ (e : first_of (asking_tests q (length room)) ≡ Ok tt) {survey : Surveyed} (s : DidSurvey st site survey) where
     surveyed : first_of (trace_tests st site q (length room)) ≡ survey.verdict
     surveyed = first-passed (asking_tests q (length room)) (site_tests st site) e ∙ sym s.judged
 
-    pub site-refused : {r : Refusal} {answer : Traced} → survey.verdict ≡ Refuse r → answer ≡ refused_trace r → DidTrace st site q room answer room
-    site-refused {r} f a = did-trace (Refuse r) (surveyed ∙ f) a refl
+    pub site-refused : {r : Refusal} {answer : Traced} → survey.verdict ≡ Err r → answer ≡ refused_trace r → DidTrace st site q room answer room
+    site-refused {r} f a = did-trace (Err r) (surveyed ∙ f) a refl
 
-    pub trace-listed : {answer : Traced} {room' : List ℕ} → survey.verdict ≡ Fine → DidList st site q room answer room' → DidTrace st site q room answer room'
-    trace-listed f l = did-trace Fine (surveyed ∙ f) l.answered l.left
+    pub trace-listed : {answer : Traced} {room' : List ℕ} → survey.verdict ≡ Ok tt → DidList st site q room answer room' → DidTrace st site q room answer room'
+    trace-listed f l = did-trace (Ok tt) (surveyed ∙ f) l.answered l.left
 
 -- two outcomes that the contract allows coincide
 pub traced-one : {st : Stores} {site : List ℕ} {q : Query} {room : List ℕ} {r₁ r₂ : Traced} {a₁ a₂ : List ℕ}

@@ -1,11 +1,11 @@
 -- A telegram followed over a path: one coupler, and a path in two pieces.
+use Rattle.std.specs.Prelude.{Result, Ok, Err, Option, Some, None}
 use Prim.Native.Nat.{ℕ}
 use mathlib.Core.Bool.{Bool, true, false}
 use mathlib.Core.List.{List, [], ◌∷◌, ◌++◌}
 use mathlib.Core.Path.{◌≡◌, refl, sym, ap, ◌∙◌}
 use native.Mathlib.Omega.{arith}
 use Rattle.passing.specs.Passing.{does_pass}
-use Rattle.frame.specs.declared.Verdict.{Verdict}
 use Rattle.passing.specs.declared.Passage.{Passage}
 use Rattle.frame.proofs.Order.{first-passed, first-refused}
 use Rattle.frame.specs.Order.{first_of, answer_by}
@@ -23,11 +23,6 @@ use Rattle.tracer.specs.declared.Query.{Query}
 use Rattle.tracer.specs.Tracing.{asking_tests}
 use Rattle.tracer.specs.Why.{handed_on, walked, why_by, why_of, why_tests, answer_why}
 use Rattle.tracer.specs.declared.Stop.{Stop}
-use Rattle.tracer.specs.declared.Walk.TheVariants.{Going, Stopped}
-use Rattle.tracer.specs.declared.Walk.{Walk}
-use Rattle.frame.specs.declared.Verdict.TheVariants.{Fine, Refuse}
-use Rattle.tracer.specs.declared.Explanation.{Explanation}
-use Rattle.tracer.specs.declared.Explanation.TheVariants.{Reached, NotReached, Refused as Unexplained}
 
 -- a line that is not on the way to 00h is not 00h
 pub not-zero : (n m : ℕ) → is_among n (main_sides m) ≡ false → n ≡ 0 → ⊥
@@ -37,36 +32,36 @@ not-zero n m e z =
     omega arith
 
 module _ (st : Stores) (site : List ℕ) (q : Query) where
-  pub hand-stopped : {w : Walk} (x : Crossing) (stop : Stop) → w ≡ Stopped stop → Stopped stop ≡ handed_on st site q w x
+  pub hand-stopped : {w : Result ℕ Stop} (x : Crossing) (stop : Stop) → w ≡ Err stop → Err stop ≡ handed_on st site q w x
   hand-stopped x stop e = rw e refl
 
-  module _ {w : Walk} (x : Crossing) (count : ℕ) (e : w ≡ Going count) {p : Passage} (reason : p ≡ passage_at st q.kind q.destination (records_of site) x.direction x.line count) {b : Bool} (d : b ≡ does_pass p) where
-    pub hand-goes : {n : ℕ} → b ≡ true → n ≡ hopped_in q count → Going n ≡ handed_on st site q w x
-    hand-goes t h = rw (e, ← reason, ← d, t) (ap Going h)
+  module _ {w : Result ℕ Stop} (x : Crossing) (count : ℕ) (e : w ≡ Ok count) {p : Passage} (reason : p ≡ passage_at st q.kind q.destination (records_of site) x.direction x.line count) {b : Bool} (d : b ≡ does_pass p) where
+    pub hand-goes : {n : ℕ} → b ≡ true → n ≡ hopped_in q count → Ok n ≡ handed_on st site q w x
+    hand-goes t h = rw (e, ← reason, ← d, t) (ap Ok h)
 
-    pub hand-stops : b ≡ false → Stopped (record { coupler = x.line; direction = x.direction; reason = p }) ≡ handed_on st site q w x
+    pub hand-stops : b ≡ false → Err (record { coupler = x.line; direction = x.direction; reason = p }) ≡ handed_on st site q w x
     hand-stops f = rw (e, ← reason, ← d, f) refl
 
-  pub walked-append : (w : Walk) (xs ys : List Crossing) → walked st site q w (xs ++ ys) ≡ walked st site q (walked st site q w xs) ys
+  pub walked-append : (w : Result ℕ Stop) (xs ys : List Crossing) → walked st site q w (xs ++ ys) ≡ walked st site q (walked st site q w xs) ys
   walked-append w [] ys = refl
   walked-append w (x ∷ xs) ys = walked-append (handed_on st site q w x) xs ys
 
   -- up to the first line in common, and down from it: a line that the other's main sides have too ends the way, any other is one coupler
-  pub up-joined : (w : Walk) (from to : ℕ) {b : Bool} → b ≡ is_among from (main_sides to) → b ≡ true → w ≡ walked st site q w (up_over (before_common (main_sides from) (main_sides to)))
+  pub up-joined : (w : Result ℕ Stop) (from to : ℕ) {b : Bool} → b ≡ is_among from (main_sides to) → b ≡ true → w ≡ walked st site q w (up_over (before_common (main_sides from) (main_sides to)))
   up-joined w from to e t = rw (before_on from (main_sides to) (sym e ∙ t)) refl
 
-  pub up_more : (w : Walk) {next r : Walk} {main : ℕ} (from to : ℕ) {b : Bool} → b ≡ is_among from (main_sides to) → b ≡ false → next ≡ handed_on st site q w (up from) → main ≡ main_side from
+  pub up_more : (w : Result ℕ Stop) {next r : Result ℕ Stop} {main : ℕ} (from to : ℕ) {b : Bool} → b ≡ is_among from (main_sides to) → b ≡ false → next ≡ handed_on st site q w (up from) → main ≡ main_side from
       → r ≡ walked st site q next (up_over (before_common (main_sides main) (main_sides to))) → r ≡ walked st site q w (up_over (before_common (main_sides from) (main_sides to)))
   up_more w {main = main} from to e f n m r =
       r
-      ∙ ap (λ (v : Walk). walked st site q v (up_over (before_common (main_sides main) (main_sides to)))) n
+      ∙ ap (λ (v : Result ℕ Stop). walked st site q v (up_over (before_common (main_sides main) (main_sides to)))) n
       ∙ ap (λ (k : ℕ). walked st site q (handed_on st site q w (up from)) (up_over (before_common (main_sides k) (main_sides to)))) m
       ∙ ap (λ (l : List ℕ). walked st site q w (up_over l)) (sym (before-off from (main_sides to) (not-zero from to (sym e ∙ f)) (sym e ∙ f)))
 
-  pub down-joined : (w : Walk) (from to : ℕ) {b : Bool} → b ≡ is_among to (main_sides from) → b ≡ true → w ≡ walked st site q w (down_over (before_common (main_sides to) (main_sides from)))
+  pub down-joined : (w : Result ℕ Stop) (from to : ℕ) {b : Bool} → b ≡ is_among to (main_sides from) → b ≡ true → w ≡ walked st site q w (down_over (before_common (main_sides to) (main_sides from)))
   down-joined w from to e t = rw (before_on to (main_sides from) (sym e ∙ t)) refl
 
-  pub down-more : (w : Walk) {there r : Walk} {main : ℕ} (from to : ℕ) {b : Bool} → b ≡ is_among to (main_sides from) → b ≡ false → main ≡ main_side to
+  pub down-more : (w : Result ℕ Stop) {there r : Result ℕ Stop} {main : ℕ} (from to : ℕ) {b : Bool} → b ≡ is_among to (main_sides from) → b ≡ false → main ≡ main_side to
       → there ≡ walked st site q w (down_over (before_common (main_sides main) (main_sides from))) → r ≡ handed_on st site q there (down to)
       → r ≡ walked st site q w (down_over (before_common (main_sides to) (main_sides from)))
   down-more w {main = main} from to e f m t r =
@@ -74,37 +69,37 @@ module _ (st : Stores) (site : List ℕ) (q : Query) where
       (r ∙ rw t (sym (walked-append w (down_over (before_common (main_sides main) (main_sides from))) (down to ∷ []))))
 
 -- the walk over the path, up and then down
-module _ (st : Stores) (site : List ℕ) (q : Query) (line : ℕ) {joined walk : Walk}
-    (u : joined ≡ walked st site q (Going q.count) (up_over (before_common (main_sides q.start) (main_sides line))))
+module _ (st : Stores) (site : List ℕ) (q : Query) (line : ℕ) {joined walk : Result ℕ Stop}
+    (u : joined ≡ walked st site q (Ok q.count) (up_over (before_common (main_sides q.start) (main_sides line))))
     (d : walk ≡ walked st site q joined (down_over (before_common (main_sides line) (main_sides q.start)))) where
   explained : why_of st site q line ≡ why_by walk
   unfolding why_of path
   explained =
       let way = up_over (before_common (main_sides q.start) (main_sides line)) in
       let back = down_over (before_common (main_sides line) (main_sides q.start)) in
-      ap why_by (walked-append st site q (Going q.count) way back ∙ ap (λ (w : Walk). walked st site q w back) (sym u) ∙ sym d)
+      ap why_by (walked-append st site q (Ok q.count) way back ∙ ap (λ (w : Result ℕ Stop). walked st site q w back) (sym u) ∙ sym d)
 
-  pub explained-reached : (k : ℕ) → walk ≡ Going k → Reached ≡ why_of st site q line
+  pub explained-reached : (k : ℕ) → walk ≡ Ok k → Ok None ≡ why_of st site q line
   explained-reached k e = sym (explained ∙ ap why_by e)
 
-  pub explained-stopped : (stop : Stop) → walk ≡ Stopped stop → NotReached stop ≡ why_of st site q line
+  pub explained-stopped : (stop : Stop) → walk ≡ Err stop → (Ok (Some stop)) ≡ why_of st site q line
   explained-stopped stop e = sym (explained ∙ ap why_by e)
 
 -- the whole explanation: refused as the trace with room enough is, or the walk
 module _ (st : Stores) (site : List ℕ) (q : Query) (line : ℕ) where
-  answer-by : {answer : Explanation} (v : Verdict) → first_of (why_tests st site q) ≡ v → answer ≡ answer_by Unexplained (why_of st site q line) v → answer ≡ answer_why st site q line
+  answer-by : {answer : Result (Option Stop) Refusal} (v : Result (Unit {0}) Refusal) → first_of (why_tests st site q) ≡ v → answer ≡ answer_by Err (why_of st site q line) v → answer ≡ answer_why st site q line
   unfolding answer_why
-  answer-by v e a = a ∙ ap (answer_by Unexplained (why_of st site q line)) (sym e)
+  answer-by v e a = a ∙ ap (answer_by Err (why_of st site q line)) (sym e)
 
-  pub why-asked : {r : Refusal} → first_of (asking_tests q 768) ≡ Refuse r → Unexplained r ≡ answer_why st site q line
-  why-asked {r} e = answer-by (Refuse r) (first-refused (asking_tests q 768) (site_tests st site) r e) refl
+  pub why-asked : {r : Refusal} → first_of (asking_tests q 768) ≡ Err r → Err r ≡ answer_why st site q line
+  why-asked {r} e = answer-by (Err r) (first-refused (asking_tests q 768) (site_tests st site) r e) refl
 
-  module _ (e : first_of (asking_tests q 768) ≡ Fine) {survey : Surveyed} (s : DidSurvey st site survey) where
+  module _ (e : first_of (asking_tests q 768) ≡ Ok tt) {survey : Surveyed} (s : DidSurvey st site survey) where
     surveyed : first_of (why_tests st site q) ≡ survey.verdict
     surveyed = first-passed (asking_tests q 768) (site_tests st site) e ∙ sym s.judged
 
-    pub why-refused : {r : Refusal} → survey.verdict ≡ Refuse r → Unexplained r ≡ answer_why st site q line
-    why-refused {r} f = answer-by (Refuse r) (surveyed ∙ f) refl
+    pub why-refused : {r : Refusal} → survey.verdict ≡ Err r → Err r ≡ answer_why st site q line
+    why-refused {r} f = answer-by (Err r) (surveyed ∙ f) refl
 
-    pub why-explained : {answer : Explanation} → survey.verdict ≡ Fine → answer ≡ why_of st site q line → answer ≡ answer_why st site q line
-    why-explained f a = answer-by Fine (surveyed ∙ f) a
+    pub why-explained : {answer : Result (Option Stop) Refusal} → survey.verdict ≡ Ok tt → answer ≡ why_of st site q line → answer ≡ answer_why st site q line
+    why-explained f a = answer-by (Ok tt) (surveyed ∙ f) a

@@ -1,7 +1,6 @@
 -- How the tracer works its list out: for the contracts of its private functions. No public contract rests on these definitions.
 -- A telegram on its way: how many lines it has been put on, the starting line being the first; 0 where it does not come.
-use Rattle.std.specs.Prelude.{ℕ, suc, ◌-◌, ◌<◌, Bool, false, cond, ◌&&◌, List, [], ◌∷◌, ◌≡◌, ltb, eqb, length, get_or}
-use Rattle.frame.specs.declared.Verdict.TheVariants.{Fine}
+use Rattle.std.specs.Prelude.{ℕ, suc, ◌-◌, ◌<◌, Bool, false, cond, ◌&&◌, List, [], ◌∷◌, ◌≡◌, ltb, eqb, length, get_or, Ok}
 use Rattle.octets.specs.Room.{over}
 use Rattle.site.specs.Stores.{Stores}
 use Rattle.site.specs.WellFormed.{is_among}
@@ -59,5 +58,5 @@ entry_by q lines line =
 
 -- nothing refused: the list at the front of the room, "octets behind the list stay"
 pub record DidList (st : Stores) (site : List ℕ) (q : Query) (room : List ℕ) (answer : Traced) (room' : List ℕ) : Type 0 where
-  pub answered : answer ≡ traced_by st site q Fine
-  pub left : room' ≡ over (list_by st site q Fine) room
+  pub answered : answer ≡ traced_by st site q (Ok tt)
+  pub left : room' ≡ over (list_by st site q (Ok tt)) room

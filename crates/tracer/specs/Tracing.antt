@@ -1,8 +1,6 @@
 -- The trace: document 01, "Sites and the tracer".
-use Rattle.std.specs.Prelude.{ℕ, not, List, [], ◌∷◌, ◌++◌, ◌≡◌, ltb, length}
+use Rattle.std.specs.Prelude.{ℕ, not, List, [], ◌∷◌, ◌++◌, ◌≡◌, ltb, length, Result, Ok, Err}
 use Rattle.frame.specs.Order.{Test, first_of, ◌gives◌}
-use Rattle.frame.specs.declared.Verdict.TheVariants.{Fine, Refuse}
-use Rattle.frame.specs.declared.Verdict.{Verdict}
 use Rattle.frame.specs.Refusals.{number}
 use Rattle.frame.specs.declared.Refusal.{Refusal}
 use Rattle.frame.specs.declared.Refusal.TheVariants.{SmallRoom, OutOfRange}
@@ -28,13 +26,13 @@ trace_tests st site q room = asking_tests q room ++ site_tests st site
 abbrev pub refused_trace : Refusal → Traced
 refused_trace r = record { number = number r; lines = 0; forwardings = 0 }
 
-abbrev pub traced_by : Stores → List ℕ → Query → Verdict → Traced
-traced_by st site q Fine = record { number = 0; lines = lines_listed st site q; forwardings = forwardings st site q }
-traced_by st site q (Refuse r) = refused_trace r
+abbrev pub traced_by : Stores → List ℕ → Query → Result (Unit {0}) Refusal → Traced
+traced_by st site q (Ok _) = record { number = 0; lines = lines_listed st site q; forwardings = forwardings st site q }
+traced_by st site q (Err r) = refused_trace r
 
-abbrev pub list_by : Stores → List ℕ → Query → Verdict → List ℕ
-list_by st site q Fine = listed st site q
-list_by st site q (Refuse r) = []
+abbrev pub list_by : Stores → List ℕ → Query → Result (Unit {0}) Refusal → List ℕ
+list_by st site q (Ok _) = listed st site q
+list_by st site q (Err r) = []
 
 -- "Lent octets behind the list stay."
 pub record DidTrace (st : Stores) (site : List ℕ) (q : Query) (room : List ℕ) (answer : Traced) (room' : List ℕ) : Type 0 where

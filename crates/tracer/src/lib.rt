@@ -16,7 +16,7 @@ ghost use Rattle.tracer.specs.Tracing.{asking_tests, refused_trace, DidTrace};
 ghost use Rattle.tracer.specs.Reaching.{DidList};
 ghost use Rattle.tracer.specs.Why.{why_of, answer_why};
 
-use frame::{Refusal, Verdict};
+use frame::Refusal;
 use passing::Passage;
 
 // What a planner asks: starting line, kind (0 individual, 1 group), destination, count.
@@ -49,20 +49,6 @@ pub struct Stop {
     pub coupler: u8,
     pub direction: u8,
     pub reason: Passage,
-}
-
-// A telegram on its way: going, with its count, or stopped.
-#[derive(Clone, Copy)]
-pub enum Walk {
-    Going(u8),
-    Stopped(Stop),
-}
-
-#[derive(Clone, Copy)]
-pub enum Explanation {
-    Reached,
-    NotReached(Stop),
-    Refused(Refusal),
 }
 
 pub fn query_of(start: u8, kind: u8, destination: u16, count: u8) -> Query
@@ -105,17 +91,17 @@ fn on_arrival(query: Query, crossed: u8) -> u8
 }
 
 // "Order: 14 (kind, count), 13 (room below 768)", before the site's
-fn judge(query: Query, room: usize) -> Verdict
+fn judge(query: Query, room: usize) -> Result<(), Refusal>
     ensures { result ≡ first_of (asking_tests query room) }
 {
     let asked = (query.kind <= 1) & (query.count <= 7);
     if asked {
         if room < 768 {
-            return Verdict::Refuse(Refusal::SmallRoom);
+            return Err(Refusal::SmallRoom);
         }
-        Verdict::Fine
+        Ok(())
     } else {
-        Verdict::Refuse(Refusal::OutOfRange)
+        Err(Refusal::OutOfRange)
     }
 }
 
@@ -166,14 +152,14 @@ pub fn trace<'a>(
     ensures { DidTrace (stores project.now own.now) site.now query room.old result room.new }
 {
     let judged = judge(query, room.len());
-    if let Verdict::Refuse(refusal) = judged {
+    if let Err(refusal) = judged {
         return refused(refusal);
     }
     let survey = site::survey(site, project, own);
     let verdict = survey.verdict;
     match verdict {
-        Verdict::Refuse(refusal) => refused(refusal),
-        Verdict::Fine => {
+        Err(refusal) => refused(refusal),
+        Ok(()) => {
             let starts = survey.starts;
             list(query, site, &starts, project, own, room)
         }
@@ -187,32 +173,32 @@ fn explain<'a>(
     project: &'a [u8],
     own: &'a [u8],
     line: u8,
-) -> Explanation
+) -> Result<Option<Stop>, Refusal>
     requires { Noted site.now starts.now }
     ensures { result ≡ why_of (stores project.now own.now) site.now query line }
 {
-    let sent = Walk::Going(query.count);
+    let sent = Ok(query.count);
     let joined = walking::walk_up(query, site, starts, project, own, sent, query.start, line);
     let walk = walking::walk_down(query, site, starts, project, own, joined, query.start, line);
     match walk {
-        Walk::Going(_) => Explanation::Reached,
-        Walk::Stopped(stop) => Explanation::NotReached(stop),
+        Ok(_) => Ok(None),
+        Err(stop) => Ok(Some(stop)),
     }
 }
 
 // Whether the telegram comes to a line; if not, the first coupler on the path that does not hand it
 // on, in which direction, and why.
-pub fn why<'a>(query: Query, site: &[u8], project: &'a [u8], own: &'a [u8], line: u8) -> Explanation
+pub fn why<'a>(query: Query, site: &[u8], project: &'a [u8], own: &'a [u8], line: u8) -> Result<Option<Stop>, Refusal>
     ensures { result ≡ answer_why (stores project.now own.now) site.now query line }
 {
     let judged = judge(query, 768);
-    if let Verdict::Refuse(refusal) = judged {
-        return Explanation::Refused(refusal);
+    if let Err(refusal) = judged {
+        return Err(refusal);
     }
     let survey = site::survey(site, project, own);
     let verdict = survey.verdict;
-    if let Verdict::Refuse(refusal) = verdict {
-        return Explanation::Refused(refusal);
+    if let Err(refusal) = verdict {
+        return Err(refusal);
     }
     let starts = survey.starts;
     explain(query, site, &starts, project, own, line)

@@ -6,7 +6,7 @@ ghost use Rattle.site.specs.Stores.{stores};
 ghost use Rattle.tracer.specs.Lines.{main_sides, before_common, up_over, down_over, crossing};
 ghost use Rattle.tracer.specs.Why.{handed_on, walked};
 
-use crate::{Query, Stop, Walk};
+use crate::{Query, Stop};
 use passing::Passage;
 
 fn does_pass(passage: Passage) -> bool
@@ -30,16 +30,16 @@ fn hand_on<'a>(
     starts: &[u16; 256],
     project: &'a [u8],
     own: &'a [u8],
-    walk: Walk,
+    walk: Result<u8, Stop>,
     direction: u8,
     coupler: u8,
-) -> Walk
+) -> Result<u8, Stop>
     requires { Noted site.now starts.now }
     ensures { result ≡ handed_on (stores project.now own.now) site.now query walk (crossing direction coupler) }
 {
     match walk {
-        Walk::Stopped(stop) => Walk::Stopped(stop),
-        Walk::Going(count) => {
+        Err(stop) => Err(stop),
+        Ok(count) => {
             let reason = site::why_not(
                 site,
                 starts,
@@ -52,9 +52,9 @@ fn hand_on<'a>(
                 count,
             );
             if does_pass(reason) {
-                return Walk::Going(crate::hopped(query, count));
+                return Ok(crate::hopped(query, count));
             }
-            Walk::Stopped(Stop {
+            Err(Stop {
                 coupler,
                 direction,
                 reason,
@@ -70,10 +70,10 @@ pub(crate) fn walk_up<'a>(
     starts: &[u16; 256],
     project: &'a [u8],
     own: &'a [u8],
-    walk: Walk,
+    walk: Result<u8, Stop>,
     from: u8,
     to: u8,
-) -> Walk
+) -> Result<u8, Stop>
     requires { Noted site.now starts.now }
     ensures { result ≡ walked (stores project.now own.now) site.now query walk (up_over (before_common (main_sides from) (main_sides to))) }
 {
@@ -100,10 +100,10 @@ pub(crate) fn walk_down<'a>(
     starts: &[u16; 256],
     project: &'a [u8],
     own: &'a [u8],
-    walk: Walk,
+    walk: Result<u8, Stop>,
     from: u8,
     to: u8,
-) -> Walk
+) -> Result<u8, Stop>
     requires { Noted site.now starts.now }
     ensures { result ≡ walked (stores project.now own.now) site.now query walk (down_over (before_common (main_sides to) (main_sides from))) }
 {

@@ -1,4 +1,5 @@
 -- The two readers' answers by their numbers and values: frame's law, cited.
+use Rattle.std.specs.Prelude.{Result, Ok, Err}
 use Prim.Native.Nat.{ℕ}
 use mathlib.Core.List.{List}
 use mathlib.Core.Path.{◌≡◌, refl, ap}
@@ -7,11 +8,8 @@ use Rattle.cemi.proofs.Answers.{message-apart}
 use Rattle.frame.proofs.Answers.{Split, Tells, answers, refuses, tells}
 use Rattle.tunnelling.specs.Answers.{request_values, request_numbered, acknowledgement_values, acknowledgement_numbered}
 use Rattle.tunnelling.specs.declared.Acknowledgement.{Acknowledgement}
-use Rattle.tunnelling.specs.declared.AcknowledgementAnswer.TheVariants.{Frame as Acknowledged, Refused as Unacknowledged}
-use Rattle.tunnelling.specs.declared.AcknowledgementAnswer.{AcknowledgementAnswer}
 use Rattle.tunnelling.specs.declared.Request.{Request}
-use Rattle.tunnelling.specs.declared.RequestAnswer.TheVariants.{Frame, Refused}
-use Rattle.tunnelling.specs.declared.RequestAnswer.{RequestAnswer}
+use Rattle.frame.specs.declared.Refusal.{Refusal}
 
 -- a request's values tell it from every other
 pub request-apart : (x y : Request) → request_values x ≡ request_values y → x ≡ y
@@ -21,12 +19,12 @@ request-apart x y e =
     let message : x.message ≡ y.message = message-apart _ _ (ap (drop 2) e) in
     λ i. record { channel = channel i; counter = counter i; message = message i }
 
-request-split : (a : RequestAnswer) → Split Frame Refused a
-request-split (Frame x) = answers x refl
-request-split (Refused r) = refuses r refl
+request-split : (a : Result Request Refusal) → Split Ok Err a
+request-split (Ok x) = answers x refl
+request-split (Err r) = refuses r refl
 
-pub request-tells : Tells Refused request_numbered
-request-tells = tells Frame Refused request_values request_numbered request-split (λ x. refl) (λ r. refl) request-apart
+pub request-tells : Tells Err request_numbered
+request-tells = tells Ok Err request_values request_numbered request-split (λ x. refl) (λ r. refl) request-apart
 
 -- and an acknowledgement's
 pub acknowledgement-apart : (x y : Acknowledgement) → acknowledgement_values x ≡ acknowledgement_values y → x ≡ y
@@ -34,9 +32,9 @@ acknowledgement-apart x y e =
     let at : (k : ℕ) → get_or (acknowledgement_values x) k 0 ≡ get_or (acknowledgement_values y) k 0 = λ k. ap (λ (l : List ℕ). get_or l k 0) e in
     λ i. record { channel = at 0 i; counter = at 1 i; status = at 2 i }
 
-acknowledgement-split : (a : AcknowledgementAnswer) → Split Acknowledged Unacknowledged a
-acknowledgement-split (Acknowledged x) = answers x refl
-acknowledgement-split (Unacknowledged r) = refuses r refl
+acknowledgement-split : (a : Result Acknowledgement Refusal) → Split Ok Err a
+acknowledgement-split (Ok x) = answers x refl
+acknowledgement-split (Err r) = refuses r refl
 
-pub acknowledgement-tells : Tells Unacknowledged acknowledgement_numbered
-acknowledgement-tells = tells Acknowledged Unacknowledged acknowledgement_values acknowledgement_numbered acknowledgement-split (λ x. refl) (λ r. refl) acknowledgement-apart
+pub acknowledgement-tells : Tells Err acknowledgement_numbered
+acknowledgement-tells = tells Ok Err acknowledgement_values acknowledgement_numbered acknowledgement-split (λ x. refl) (λ r. refl) acknowledgement-apart

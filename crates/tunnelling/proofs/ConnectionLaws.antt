@@ -1,4 +1,5 @@
 -- What the verdict on header and connection header says of their tests.
+use Rattle.std.specs.Prelude.{Result, Ok}
 use Prim.Native.Nat.{ℕ, ◌≤◌}
 use mathlib.Core.List.{List}
 use mathlib.Core.Path.{◌≡◌}
@@ -6,14 +7,13 @@ use lib.ListN.{length}
 use borrow.Author.Tests.{ltb-false}
 use Rattle.frame.proofs.Order.{passed-iff}
 use Rattle.frame.specs.Order.{first_of}
-use Rattle.frame.specs.declared.Verdict.TheVariants.{Fine}
-use Rattle.frame.specs.declared.Verdict.{Verdict}
 use Rattle.tunnelling.specs.Reading.{connected_tests, read_connection}
+use Rattle.frame.specs.declared.Refusal.{Refusal}
 
 module _ (service : ℕ) (s : List ℕ) where
-  pub connection-verdict : {v : Verdict} → read_connection service s ≡ v → first_of (connected_tests service s) ≡ v
+  pub connection-verdict : {v : Result (Unit {0}) Refusal} → read_connection service s ≡ v → first_of (connected_tests service s) ≡ v
   unfolding read_connection
   connection-verdict e = e
 
-  pub connection-least : read_connection service s ≡ Fine → 10 ≤ length s
+  pub connection-least : read_connection service s ≡ Ok tt → 10 ≤ length s
   connection-least e = ltb-false _ _ ((passed-iff (connected_tests service s)).0 (connection-verdict e)).1.1.1.1.0

@@ -1,4 +1,5 @@
 -- Requests and acknowledgements taken apart: their lengths, and how a request comes to stand in a room.
+use Rattle.std.specs.Prelude.{Result}
 use Prim.Native.Nat.{ℕ, ◌+◌, ◌-◌, ◌≤◌}
 use mathlib.Core.Bool.{Bool, true}
 use mathlib.Core.List.{List, ◌++◌}
@@ -11,10 +12,10 @@ use Rattle.cemi.specs.Layout.{plain}
 use Rattle.cemi.specs.declared.Message.{Message}
 use Rattle.frame.proofs.Writing.{head-room}
 use Rattle.frame.specs.Writing.{Wrote}
-use Rattle.frame.specs.declared.Written.{Written}
 use Rattle.octets.specs.Room.{laid, over}
 use Rattle.tunnelling.specs.Layout.{request_service, connected_head, connected, request_octets, acknowledgement_octets}
 use Rattle.tunnelling.specs.declared.Acknowledgement.{Acknowledgement}
+use Rattle.frame.specs.declared.Refusal.{Refusal}
 
 module _ (k n : ℕ) (x : Message) (p : List ℕ) where
   pub length-request : length (request_octets k n x p) ≡ 19 + length p
@@ -28,7 +29,7 @@ module _ (k n : ℕ) (x : Message) (p : List ℕ) where
       ap (λ (t : ℕ). connected_head request_service t k n 0 ++ plain x p) e
 
   -- the head laid over the room, and the message written into what follows it, are the request over the room
-  pub request-room : (room : List ℕ) {ranged : Bool} {w : Written} {r₁ r₂ : List ℕ} → ranged ≡ true → 19 + length p ≤ length room
+  pub request-room : (room : List ℕ) {ranged : Bool} {w : Result ℕ Refusal} {r₁ r₂ : List ℕ} → ranged ≡ true → 19 + length p ≤ length room
       → r₁ ≡ laid (connected_head request_service (19 + length p) k n 0) 0 room
       → Wrote ranged (plain x p) (take (length r₁ - 10) (drop 10 r₁)) w r₂
       → put_mid 10 (length r₁ - 10) r₁ r₂ ≡ over (request_octets k n x p) room

@@ -1,6 +1,5 @@
 pub mod ConnectionLaws
 pub mod LayoutLaws
-pub mod Apart
 pub mod Answers
 pub mod Refusals
 pub mod RoundTrip

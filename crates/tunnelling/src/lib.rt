@@ -11,8 +11,8 @@ ghost use Rattle.tunnelling.specs.Layout.{connected_head, request_octets, acknow
 ghost use Rattle.tunnelling.specs.Reading.{is_other_connection, read_connection, read_request, request_message, request_message_at, read_acknowledgement};
 ghost use Rattle.tunnelling.specs.Stages.{judge_connection};
 
-use cemi::{CemiAnswer, Codes, Message};
-use frame::{Refusal, Verdict, Written};
+use cemi::{Codes, Message};
+use frame::Refusal;
 
 const TUNNELLING_REQUEST: u16 = 0x0420;
 
@@ -26,22 +26,10 @@ pub struct Request {
 }
 
 #[derive(Clone, Copy)]
-pub enum RequestAnswer {
-    Frame(Request),
-    Refused(Refusal),
-}
-
-#[derive(Clone, Copy)]
 pub struct Acknowledgement {
     pub channel: u8,
     pub counter: u8,
     pub status: u8,
-}
-
-#[derive(Clone, Copy)]
-pub enum AcknowledgementAnswer {
-    Frame(Acknowledgement),
-    Refused(Refusal),
 }
 
 fn is_other_connection(octets: &[u8]) -> bool
@@ -51,53 +39,44 @@ fn is_other_connection(octets: &[u8]) -> bool
 }
 
 // The tests of the connection header, behind the header's.
-fn judge_connection(octets: &[u8]) -> Verdict
+fn judge_connection(octets: &[u8]) -> Result<(), Refusal>
     ensures { result ≡ judge_connection octets.now }
 {
     if octets.len() < 10 {
-        return Verdict::Refuse(Refusal::TooFew);
+        return Err(Refusal::TooFew);
     }
     if is_other_connection(octets) {
-        return Verdict::Refuse(Refusal::OtherConnection);
+        return Err(Refusal::OtherConnection);
     }
-    Verdict::Fine
+    Ok(())
 }
 
 // The header and the connection header of a datagram, told which service is wanted.
-pub fn read_connection(octets: &[u8], service: u16) -> Verdict
+pub fn read_connection(octets: &[u8], service: u16) -> Result<(), Refusal>
     ensures { result ≡ read_connection service octets.now }
 {
-    let header = knxnetip::read_header(octets, service);
-    match header {
-        Verdict::Refuse(refusal) => Verdict::Refuse(refusal),
-        Verdict::Fine => judge_connection(octets),
-    }
+    knxnetip::read_header(octets, service)?;
+    judge_connection(octets)
 }
 
 // What a datagram means as a tunnelling request, or the first refusal of the order.
-pub fn read_request(octets: &[u8]) -> RequestAnswer
+pub fn read_request(octets: &[u8]) -> Result<Request, Refusal>
     ensures { result ≡ read_request octets.now }
 {
-    let connection = read_connection(octets, TUNNELLING_REQUEST);
-    if let Verdict::Refuse(refusal) = connection {
-        return RequestAnswer::Refused(refusal);
-    }
-    let answer = cemi::read(Codes::All, &octets[10..]);
-    match answer {
-        CemiAnswer::Refused(refusal) => RequestAnswer::Refused(refusal),
-        CemiAnswer::Frame(message) => RequestAnswer::Frame(Request {
-            channel: octets::octet(octets, 7),
-            counter: octets::octet(octets, 8),
-            message,
-        }),
-    }
+    read_connection(octets, TUNNELLING_REQUEST)?;
+    let message = cemi::read(Codes::All, &octets[10..])?;
+    Ok(Request {
+        channel: octets::octet(octets, 7),
+        counter: octets::octet(octets, 8),
+        message,
+    })
 }
 
 // The cEMI message, as a part of the request that was read with this answer; empty with a refusal.
-pub fn message(answer: RequestAnswer, octets: &[u8]) -> &[u8]
+pub fn message(answer: Result<Request, Refusal>, octets: &[u8]) -> &[u8]
     ensures { PartAt octets.entry result (request_message_at answer octets.now) (request_message answer octets.now) }
 {
-    let RequestAnswer::Frame(_) = answer else {
+    let Ok(_) = answer else {
         return &octets[..0];
     };
     if octets.len() < 10 {
@@ -132,34 +111,31 @@ pub fn write_request(
     message: Message,
     payload: &[u8],
     room: &mut [u8],
-) -> Written
+) -> Result<usize, Refusal>
     ensures { Wrote (message_in_range All message (length payload.now)) (request_octets channel counter message payload.now) room.old result room.new }
 {
     if cemi::in_range(Codes::All, message, payload.len()) {
         let size = 19 + payload.len();
         if room.len() < size {
-            return Written::Refused(Refusal::SmallRoom);
+            return Err(Refusal::SmallRoom);
         }
         lay_head(TUNNELLING_REQUEST, size as u16, channel, counter, 0, room);
-        cemi::write(Codes::All, message, payload, &mut room[10..]);
-        Written::Put(size)
+        cemi::write(Codes::All, message, payload, &mut room[10..])?;
+        Ok(size)
     } else {
-        Written::Refused(Refusal::OutOfRange)
+        Err(Refusal::OutOfRange)
     }
 }
 
 // What a datagram means as an acknowledgement, or the first refusal of the order.
-pub fn read_acknowledgement(octets: &[u8]) -> AcknowledgementAnswer
+pub fn read_acknowledgement(octets: &[u8]) -> Result<Acknowledgement, Refusal>
     ensures { result ≡ read_acknowledgement octets.now }
 {
-    let connection = read_connection(octets, TUNNELLING_ACK);
-    if let Verdict::Refuse(refusal) = connection {
-        return AcknowledgementAnswer::Refused(refusal);
-    }
+    read_connection(octets, TUNNELLING_ACK)?;
     if 10 < octets.len() {
-        return AcknowledgementAnswer::Refused(Refusal::LeftOver);
+        return Err(Refusal::LeftOver);
     }
-    AcknowledgementAnswer::Frame(Acknowledgement {
+    Ok(Acknowledgement {
         channel: octets::octet(octets, 7),
         counter: octets::octet(octets, 8),
         status: octets::octet(octets, 9),
@@ -167,11 +143,11 @@ pub fn read_acknowledgement(octets: &[u8]) -> AcknowledgementAnswer
 }
 
 // Writes an acknowledgement, or refuses by 13.
-pub fn write_acknowledgement(acknowledgement: Acknowledgement, room: &mut [u8]) -> Written
+pub fn write_acknowledgement(acknowledgement: Acknowledgement, room: &mut [u8]) -> Result<usize, Refusal>
     ensures { Wrote true (acknowledgement_octets acknowledgement) room.old result room.new }
 {
     if room.len() < 10 {
-        return Written::Refused(Refusal::SmallRoom);
+        return Err(Refusal::SmallRoom);
     }
     lay_head(
         TUNNELLING_ACK,
@@ -181,5 +157,5 @@ pub fn write_acknowledgement(acknowledgement: Acknowledgement, room: &mut [u8]) 
         acknowledgement.status,
         room,
     );
-    Written::Put(10)
+    Ok(10)
 }

@@ -9,24 +9,25 @@ use Rattle.knxnetip.proofs.HeaderLaws.{header-verdict, header-least}
 use Rattle.knxnetip.specs.Header.{header_tests}
 use Rattle.routing.specs.Layout.{routing_service}
 use Rattle.routing.specs.Reading.{read_routing}
+use Rattle.frame.proofs.HandedOn.{handed-on}
 use Rattle.routing.proofs.read.Goals as goal
 
 pub slice_bounds-read-count : goal.slice_bounds-read-count
 slice_bounds-read-count c =
-    header-least routing_service c.args.octets.now (sym c.read_header-header.ensures ∙ c.in-Fine.is)
+    header-least routing_service c.args.octets.now (sym c.read_header.ensures ∙ c.in_ok-read_header.was)
 
 pub slice_bounds-read-start : goal.slice_bounds-read-start
 slice_bounds-read-start c =
-    header-least routing_service c.args.octets.now (sym c.read_header-header.ensures ∙ c.in-Fine.is)
+    header-least routing_service c.args.octets.now (sym c.read_header.ensures ∙ c.in_ok-read_header.was)
 
-pub returns-in-Refuse : goal.returns-in-Refuse
+pub returns-in_err-read_header : goal.returns-in_err-read_header
 unfolding read_routing
-returns-in-Refuse c =
+returns-in_err-read_header c =
     let s = c.args.octets.now in
-    rw (first-refused (header_tests routing_service s) (cemi_tests IndicationOnly (drop 6 s)) _ (header-verdict routing_service s (sym c.read_header-header.ensures ∙ c.in-Refuse.is)))
+    handed-on c.from_residual.result c.from_residual.ensures.1 ∙ sym (rw (first-refused (header_tests routing_service s) (cemi_tests IndicationOnly (drop 6 s)) _ (header-verdict routing_service s (sym c.read_header.ensures ∙ c.in_err-read_header.was))))
 
-pub returns-in-Fine : goal.returns-in-Fine
+pub returns : goal.returns
 unfolding read_routing read_cemi
-returns-in-Fine c =
+returns c =
     let s = c.args.octets.now in
-    rw (first-passed (header_tests routing_service s) (cemi_tests IndicationOnly (drop 6 s)) (header-verdict routing_service s (sym c.read_header-header.ensures ∙ c.in-Fine.is))) (rw (rest-is 6 s) at c.read.ensures)
+    rw (first-passed (header_tests routing_service s) (cemi_tests IndicationOnly (drop 6 s)) (header-verdict routing_service s (sym c.read_header.ensures ∙ c.in_ok-read_header.was))) (rw (rest-is 6 s) at c.read.ensures)

@@ -9,9 +9,9 @@ use Rattle.site.proofs.survey_records.Goals as goal
 pub loop-octets-init : goal.loop-octets-init
 loop-octets-init c = surveying-none _ _ _ refl
 
-pub returns-in-Refuse : goal.returns-in-Refuse
-returns-in-Refuse c =
-    surveying-refused c.loop-octets.invariant c.record_from.ensures c.loop-octets-test.true c.record_from-octets.ensures c.line_of-line.ensures (search rules) c.judge_record-judged.ensures _ c.in-Refuse.is c.refused.ensures
+pub returns-in-Err : goal.returns-in-Err
+returns-in-Err c =
+    surveying-refused c.loop-octets.invariant c.record_from.ensures c.loop-octets-test.true c.record_from-octets.ensures c.line_of-line.ensures (search rules) c.judge_record-judged.ensures _ c.in-Err.is c.refused.ensures
 
 pub overflow_cast-from : goal.overflow_cast-from
 overflow_cast-from c = omega (arith, record-most _ _ c.record_from-octets.ensures)

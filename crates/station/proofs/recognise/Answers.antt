@@ -2,11 +2,11 @@
 use Rattle.station.specs.Taking.{telegram_in}
 use Rattle.station.proofs.recognise.Goals as goal
 
-pub returns-in-Frame : goal.returns-in-Frame
+pub returns-in-Ok : goal.returns-in-Ok
 unfolding telegram_in
-returns-in-Frame c =
-    rw (← c.read.ensures, c.in-Frame.is) c.of_frame.ensures
+returns-in-Ok c =
+    rw (← c.read.ensures, c.in-Ok.is) c.of_frame.ensures
 
-pub returns-in-Refused : goal.returns-in-Refused
+pub returns-in-Err : goal.returns-in-Err
 unfolding telegram_in
-returns-in-Refused c = rw (← c.read.ensures, c.in-Refused.is)
+returns-in-Err c = rw (← c.read.ensures, c.in-Err.is)

@@ -8,15 +8,15 @@ use Rattle.leak.specs.Total.{add_to}
 use Rattle.station.specs.Taking.{summed_by}
 use Rattle.station.proofs.summed.Goals as goal
 
-pub returns-in-Sum : goal.returns-in-Sum
+pub returns-in-Ok : goal.returns-in-Ok
 unfolding summed_by
-returns-in-Sum c =
-    let told : add_to c.args.total c.args.code ≡ _ = sym (rw (to_z-of_z c.ranges.total) at c.add.ensures) ∙ c.in-Sum.is in
-    let fits : SFits w64 c.in-Sum.sum = search rules in
+returns-in-Ok c =
+    let told : add_to c.args.total c.args.code ≡ _ = sym (rw (to_z-of_z c.ranges.total) at c.add.ensures) ∙ c.in-Ok.is in
+    let fits : SFits w64 c.in-Ok.sum = search rules in
     rw (told, to_z-of_z fits)
 
-pub returns-in-Refused : goal.returns-in-Refused
+pub returns-in-Err : goal.returns-in-Err
 unfolding summed_by
-returns-in-Refused c =
-    let told : add_to c.args.total c.args.code ≡ _ = sym (rw (to_z-of_z c.ranges.total) at c.add.ensures) ∙ c.in-Refused.is in
+returns-in-Err c =
+    let told : add_to c.args.total c.args.code ≡ _ = sym (rw (to_z-of_z c.ranges.total) at c.add.ensures) ∙ c.in-Err.is in
     rw (told, to_z-of_z c.ranges.total)

@@ -3,27 +3,27 @@ use mir.Facts.{to_z-of_z}
 use Rattle.station.specs.Taking.{taken_by}
 use Rattle.station.proofs.take.Goals as goal
 
-pub returns-in-Increment : goal.returns-in-Increment
+pub returns-in-Ok-Increment : goal.returns-in-Ok-Increment
 unfolding taken_by
-returns-in-Increment c =
-    rw (← c.recognise-telegram.ensures, c.in-Increment.is) (rw (to_z-of_z c.ranges.total) at c.summed.ensures)
+returns-in-Ok-Increment c =
+    rw (← c.recognise-telegram.ensures, c.in-Ok-Increment.is) (rw (to_z-of_z c.ranges.total) at c.summed.ensures)
 
-pub returns-in-Repetition : goal.returns-in-Repetition
+pub returns-in-Ok-Repetition : goal.returns-in-Ok-Repetition
 unfolding taken_by
-returns-in-Repetition c =
-    rw (← c.recognise-telegram.ensures, c.in-Repetition.is, to_z-of_z c.ranges.total)
+returns-in-Ok-Repetition c =
+    rw (← c.recognise-telegram.ensures, c.in-Ok-Repetition.is, to_z-of_z c.ranges.total)
 
-pub returns-in-OtherGroup : goal.returns-in-OtherGroup
+pub returns-in-Ok-OtherGroup : goal.returns-in-Ok-OtherGroup
 unfolding taken_by
-returns-in-OtherGroup c =
-    rw (← c.recognise-telegram.ensures, c.in-OtherGroup.is, to_z-of_z c.ranges.total)
+returns-in-Ok-OtherGroup c =
+    rw (← c.recognise-telegram.ensures, c.in-Ok-OtherGroup.is, to_z-of_z c.ranges.total)
 
-pub returns-in-NoIncrement : goal.returns-in-NoIncrement
+pub returns-in-Ok-NoIncrement : goal.returns-in-Ok-NoIncrement
 unfolding taken_by
-returns-in-NoIncrement c =
-    rw (← c.recognise-telegram.ensures, c.in-NoIncrement.is, to_z-of_z c.ranges.total)
+returns-in-Ok-NoIncrement c =
+    rw (← c.recognise-telegram.ensures, c.in-Ok-NoIncrement.is, to_z-of_z c.ranges.total)
 
-pub returns-in-Refused : goal.returns-in-Refused
+pub returns-in-Err : goal.returns-in-Err
 unfolding taken_by
-returns-in-Refused c =
-    rw (← c.recognise-telegram.ensures, c.in-Refused.is, to_z-of_z c.ranges.total)
+returns-in-Err c =
+    rw (← c.recognise-telegram.ensures, c.in-Err.is, to_z-of_z c.ranges.total)

@@ -5,16 +5,16 @@ use Rattle.site.specs.Stores.{stores}
 use Rattle.tracer.proofs.WalkingLaws.{why-asked, why-refused, why-explained}
 use Rattle.tracer.proofs.why.Goals as goal
 
-pub returns-in-Refuse : goal.returns-in-Refuse
-returns-in-Refuse c =
+pub returns-in-Err : goal.returns-in-Err
+returns-in-Err c =
     let judge = c.judge-judged in
-    why-asked _ _ _ _ (sym judge.ensures ∙ c.in-Refuse.is)
+    why-asked _ _ _ _ (sym judge.ensures ∙ c.in-Err.is)
 
-pub returns-in-Refuse-verdict : goal.returns-in-Refuse-verdict
-returns-in-Refuse-verdict c =
+pub returns-in-Err-verdict : goal.returns-in-Err-verdict
+returns-in-Err-verdict c =
     let survey = c.survey-survey in
     let judge = c.judge-judged in
-    why-refused _ _ _ _ (sym judge.ensures ∙ c.in_default.is) survey.ensures c.in-Refuse-verdict.is
+    why-refused _ _ _ _ (sym judge.ensures ∙ c.in_default.is) survey.ensures c.in-Err-verdict.is
 
 pub explain-requires : goal.explain-requires
 explain-requires c =

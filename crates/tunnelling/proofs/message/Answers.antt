@@ -15,9 +15,9 @@ pub returns-then-octets-lt10 : goal.returns-then-octets-lt10
 returns-then-octets-lt10 c =
     let s = c.args.octets.now in
     let e : drop 10 s ≡ [] = drop_of_length-le s (le_of_lt c.if-octets-lt10.true) in
-    rw (c.in-Frame.is, lt-leb 10 (length s) c.if-octets-lt10.true, e) (record { holds = refl; block = refl; offset = omega arith })
+    rw (c.in-Ok.is, lt-leb 10 (length s) c.if-octets-lt10.true, e) (record { holds = refl; block = refl; offset = omega arith })
 
 pub returns : goal.returns
 returns c =
     let s = c.args.octets.now in
-    rw (c.in-Frame.is, le-leb 10 (length s) c.if-octets-lt10.false) (record { holds = rest-is 10 s; block = refl; offset = omega arith })
+    rw (c.in-Ok.is, le-leb 10 (length s) c.if-octets-lt10.false) (record { holds = rest-is 10 s; block = refl; offset = omega arith })

@@ -12,11 +12,11 @@ use Rattle.tunnelling.specs.Layout.{acknowledgement_service}
 use Rattle.tunnelling.specs.Reading.{connected_tests, read_acknowledgement}
 use Rattle.tunnelling.proofs.read_acknowledgement.Goals as goal
 
-pub returns-in-Refuse : goal.returns-in-Refuse
+pub returns-in-Err : goal.returns-in-Err
 unfolding read_acknowledgement
-returns-in-Refuse c =
+returns-in-Err c =
     let s = c.args.octets.now in
-    rw (first-refused (connected_tests acknowledgement_service s) (ltb 10 (length s) gives LeftOver ∷ []) _ (connection-verdict acknowledgement_service s (sym c.read_connection-connection.ensures ∙ c.in-Refuse.is)))
+    rw (first-refused (connected_tests acknowledgement_service s) (ltb 10 (length s) gives LeftOver ∷ []) _ (connection-verdict acknowledgement_service s (sym c.read_connection-connection.ensures ∙ c.in-Err.is)))
 
 pub returns-then-octets-gt10 : goal.returns-then-octets-gt10
 unfolding read_acknowledgement

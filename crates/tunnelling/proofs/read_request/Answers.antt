@@ -10,11 +10,11 @@ use Rattle.tunnelling.specs.Layout.{request_service}
 use Rattle.tunnelling.specs.Reading.{message, connected_tests, read_request}
 use Rattle.tunnelling.proofs.read_request.Goals as goal
 
-pub returns-in-Refuse : goal.returns-in-Refuse
+pub returns-in-Err : goal.returns-in-Err
 unfolding read_request
-returns-in-Refuse c =
+returns-in-Err c =
     let s = c.args.octets.now in
-    rw (first-refused (connected_tests request_service s) (cemi_tests All (message s)) _ (connection-verdict request_service s (sym c.read_connection-connection.ensures ∙ c.in-Refuse.is)))
+    rw (first-refused (connected_tests request_service s) (cemi_tests All (message s)) _ (connection-verdict request_service s (sym c.read_connection-connection.ensures ∙ c.in-Err.is)))
 
 pub slice_bounds-read-count : goal.slice_bounds-read-count
 slice_bounds-read-count c =
@@ -24,19 +24,19 @@ pub slice_bounds-read-start : goal.slice_bounds-read-start
 slice_bounds-read-start c =
     connection-least request_service c.args.octets.now (sym c.read_connection-connection.ensures ∙ c.in_default.is)
 
-pub returns-in-Refused : goal.returns-in-Refused
+pub returns-in-Err : goal.returns-in-Err
 unfolding read_request
-returns-in-Refused c =
+returns-in-Err c =
     let s = c.args.octets.now in
     let fine = connection-verdict request_service s (sym c.read_connection-connection.ensures ∙ c.in_default.is) in
-    let read = sym (rw (rest-is 10 s) at c.read-answer.ensures) ∙ c.in-Refused.is in
+    let read = sym (rw (rest-is 10 s) at c.read-answer.ensures) ∙ c.in-Err.is in
     rw (first-passed (connected_tests request_service s) (cemi_tests All (message s)) fine, (refused-iff (cemi_tests All (message s)) _).1 ((cemi-refused All (message s) _).0 read))
 
-pub returns-in-Frame : goal.returns-in-Frame
+pub returns-in-Ok : goal.returns-in-Ok
 unfolding read_request
-returns-in-Frame c =
+returns-in-Ok c =
     let s = c.args.octets.now in
     let fine = connection-verdict request_service s (sym c.read_connection-connection.ensures ∙ c.in_default.is) in
-    let read = sym (rw (rest-is 10 s) at c.read-answer.ensures) ∙ c.in-Frame.is in
+    let read = sym (rw (rest-is 10 s) at c.read-answer.ensures) ∙ c.in-Ok.is in
     let w = (cemi-accepted All (message s) _).0 read in
-    rw (first-passed (connected_tests request_service s) (cemi_tests All (message s)) fine, (passed-iff (cemi_tests All (message s))).1 w.0, w.1, c.octet.ensures, c.octet-in-Frame.ensures)
+    rw (first-passed (connected_tests request_service s) (cemi_tests All (message s)) fine, (passed-iff (cemi_tests All (message s))).1 w.0, w.1, c.octet.ensures, c.octet-in-Ok.ensures)

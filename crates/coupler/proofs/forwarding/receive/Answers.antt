@@ -10,23 +10,23 @@ pass_on-requires c =
     let hear = c.hear-answer in
     let a = c.args in
     let ip = from_ip (coupler_by a.setting a.codes a.table.now) in
-    let read = sym hear.ensures ∙ c.in-Frame.is in
+    let read = sym hear.ensures ∙ c.in-Ok.is in
     (rw (← c.payload_of-payload.ensures) at (heard-ranged ip a.octets.now _ (λ i. (c.type_inv.octets i).fits) read), c.requires)
 
-pub returns-in-Refused : goal.returns-in-Refused
-returns-in-Refused c =
+pub returns-in-Err : goal.returns-in-Err
+returns-in-Err c =
     let hear = c.hear-answer in
     let a = c.args in
     let ip = from_ip (coupler_by a.setting a.codes a.table.now) in
-    let read = sym hear.ensures ∙ c.in-Refused.is in
+    let read = sym hear.ensures ∙ c.in-Err.is in
     rw (heard-nothing ip a.octets.now _ read) (handed-nothing _ _ _ _ _ c.refused.ensures)
 
-pub returns-in-Frame : goal.returns-in-Frame
-returns-in-Frame c =
+pub returns-in-Ok : goal.returns-in-Ok
+returns-in-Ok c =
     let repeats = c.repeats-repetition in
     let payload-of = c.payload_of-payload in
     let hear = c.hear-answer in
     let a = c.args in
     let ip = from_ip (coupler_by a.setting a.codes a.table.now) in
-    let read = sym hear.ensures ∙ c.in-Frame.is in
+    let read = sym hear.ensures ∙ c.in-Ok.is in
     rw (heard-frame ip a.octets.now _ read) (handed repeats.ensures (rw payload-of.ensures at c.pass_on.ensures))

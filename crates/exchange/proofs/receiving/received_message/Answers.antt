@@ -16,21 +16,21 @@ returns-then-octets-lt10 c =
     let e : drop 10 s ≡ [] = drop_of_length-le s (le_of_lt c.if-octets-lt10.true) in
     rw e
 
-pub returns-in-Refused : goal.returns-in-Refused
-returns-in-Refused c =
+pub returns-in-Err : goal.returns-in-Err
+returns-in-Err c =
     let a = c.args in
     let e = rw (rest-is 10 a.octets.now) at c.read-read.ensures in
-    sym (message-refused a.octets.now a.expected _ (sym e ∙ c.in-Refused.is))
+    sym (message-refused a.octets.now a.expected _ (sym e ∙ c.in-Err.is))
 
 pub returns-then-expected : goal.returns-then-expected
 returns-then-expected c =
     let s = c.args.octets.now in
     let e = rw (rest-is 10 s) at c.read-read.ensures in
-    let k = sym e ∙ c.in-Frame.is in
+    let k = sym e ∙ c.in-Ok.is in
     rw (c.if-expected.true, c.octet.ensures, c.octet-then-expected.ensures) (sym (message-taken s true _ k ∙ taken-delivered s _ k))
 
 pub returns-else-expected : goal.returns-else-expected
 returns-else-expected c =
     let s = c.args.octets.now in
     let e = rw (rest-is 10 s) at c.read-read.ensures in
-    rw c.if-expected.false (sym (message-taken s false _ (sym e ∙ c.in-Frame.is)))
+    rw c.if-expected.false (sym (message-taken s false _ (sym e ∙ c.in-Ok.is)))

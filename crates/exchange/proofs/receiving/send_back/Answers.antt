@@ -5,11 +5,11 @@ use native.Mathlib.Omega.{arith}
 use Rattle.octets.proofs.Room.{laid-front}
 use Rattle.exchange.proofs.receiving.send_back.Goals as goal
 
-pub returns-in-Delivered : goal.returns-in-Delivered
-returns-in-Delivered c = rw c.in-Delivered.is c.acknowledge.ensures
+pub returns-in-Ok-Delivered : goal.returns-in-Ok-Delivered
+returns-in-Ok-Delivered c = rw c.in-Ok-Delivered.is c.acknowledge.ensures
 
-pub returns-in-Again : goal.returns-in-Again
-returns-in-Again c = rw c.in-Again.is c.acknowledge-in-Again.ensures
+pub returns-in-Ok-Again : goal.returns-in-Ok-Again
+returns-in-Ok-Again c = rw c.in-Ok-Again.is c.acknowledge-in-Ok-Again.ensures
 
-pub returns-in-Refused : goal.returns-in-Refused
-returns-in-Refused c = rw c.in-Refused.is (sym (laid-front [] c.args.room.now (omega arith)))
+pub returns-in-Err : goal.returns-in-Err
+returns-in-Err c = rw c.in-Err.is (sym (laid-front [] c.args.room.now (omega arith)))

@@ -1,5 +1,5 @@
 -- Each arm knows its case of the answer.
 use Rattle.klumdray.proofs.counters.of_confirmed.Goals as goal
 
-pub returns-in-Refused : goal.returns-in-Refused
-returns-in-Refused c = rw c.in-Refused.is c.number.ensures
+pub returns-in-Err : goal.returns-in-Err
+returns-in-Err c = rw c.in-Err.is c.number.ensures

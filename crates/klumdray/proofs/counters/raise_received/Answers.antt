@@ -1,6 +1,6 @@
 -- The raised counter put in one arm; the block as it was in the others.
 use Rattle.klumdray.proofs.counters.raise_received.Goals as goal
 
-pub returns-in-Delivered : goal.returns-in-Delivered
-returns-in-Delivered c =
-    rw (c.in-Delivered.is, ← c.raised.ensures) c.put.ensures
+pub returns-in-Ok-Delivered : goal.returns-in-Ok-Delivered
+returns-in-Ok-Delivered c =
+    rw (c.in-Ok-Delivered.is, ← c.raised.ensures) c.put.ensures

@@ -9,13 +9,13 @@ use Rattle.klumdray.proofs.litres.of_value.Goals as goal
 
 pub overflow_cast-hundredths : goal.overflow_cast-hundredths
 overflow_cast-hundredths c =
-    let fits : SFits w32 c.in-Hundredths.hundredths = search rules in
+    let fits : SFits w32 c.in-Ok.hundredths = search rules in
     widened _ fits
 
-pub returns-in-Hundredths : goal.returns-in-Hundredths
-returns-in-Hundredths c =
-    let fits : SFits w32 c.in-Hundredths.hundredths = search rules in
-    rw c.in-Hundredths.is (ap (λ (n : ℕ). n * 4294967296) (rw (← c.bits_of-bits.ensures) at (widened-low _ fits)))
+pub returns-in-Ok : goal.returns-in-Ok
+returns-in-Ok c =
+    let fits : SFits w32 c.in-Ok.hundredths = search rules in
+    rw c.in-Ok.is (ap (λ (n : ℕ). n * 4294967296) (rw (← c.bits_of-bits.ensures) at (widened-low _ fits)))
 
-pub returns-in-Refused : goal.returns-in-Refused
-returns-in-Refused c = rw c.in-Refused.is c.number.ensures
+pub returns-in-Err : goal.returns-in-Err
+returns-in-Err c = rw c.in-Err.is c.number.ensures

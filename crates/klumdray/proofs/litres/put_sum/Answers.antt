@@ -5,10 +5,10 @@ use mir.Facts.{to_z-of_z}
 use borrow.Author.Rules.{rules}
 use Rattle.klumdray.proofs.litres.put_sum.Goals as goal
 
-pub returns-in-Sum : goal.returns-in-Sum
-returns-in-Sum c =
-    let fits : SFits w64 c.in-Sum.sum = search rules in
-    rw c.in-Sum.is (rw (to_z-of_z fits) at c.put_total.ensures)
+pub returns-in-Ok : goal.returns-in-Ok
+returns-in-Ok c =
+    let fits : SFits w64 c.in-Ok.sum = search rules in
+    rw c.in-Ok.is (rw (to_z-of_z fits) at c.put_total.ensures)
 
-pub returns-in-Refused : goal.returns-in-Refused
-returns-in-Refused c = rw c.in-Refused.is
+pub returns-in-Err : goal.returns-in-Err
+returns-in-Err c = rw c.in-Err.is

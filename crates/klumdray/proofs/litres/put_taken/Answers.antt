@@ -5,19 +5,19 @@ use mir.Facts.{to_z-of_z}
 use borrow.Author.Rules.{rules}
 use Rattle.klumdray.proofs.litres.put_taken.Goals as goal
 
-pub returns-in-Increment : goal.returns-in-Increment
-returns-in-Increment c =
+pub returns-in-Ok-Increment : goal.returns-in-Ok-Increment
+returns-in-Ok-Increment c =
     let fits : SFits w64 c.args.taken.total = search rules in
-    rw c.in-Increment.is (rw (to_z-of_z fits) at c.put_total.ensures)
+    rw c.in-Ok-Increment.is (rw (to_z-of_z fits) at c.put_total.ensures)
 
-pub returns-in-Repetition : goal.returns-in-Repetition
-returns-in-Repetition c = rw c.in-Repetition.is
+pub returns-in-Ok-Repetition : goal.returns-in-Ok-Repetition
+returns-in-Ok-Repetition c = rw c.in-Ok-Repetition.is
 
-pub returns-in-OtherGroup : goal.returns-in-OtherGroup
-returns-in-OtherGroup c = rw c.in-OtherGroup.is
+pub returns-in-Ok-OtherGroup : goal.returns-in-Ok-OtherGroup
+returns-in-Ok-OtherGroup c = rw c.in-Ok-OtherGroup.is
 
-pub returns-in-NoIncrement : goal.returns-in-NoIncrement
-returns-in-NoIncrement c = rw c.in-NoIncrement.is
+pub returns-in-Ok-NoIncrement : goal.returns-in-Ok-NoIncrement
+returns-in-Ok-NoIncrement c = rw c.in-Ok-NoIncrement.is
 
-pub returns-in-Refused : goal.returns-in-Refused
-returns-in-Refused c = rw c.in-Refused.is
+pub returns-in-Err : goal.returns-in-Err
+returns-in-Err c = rw c.in-Err.is

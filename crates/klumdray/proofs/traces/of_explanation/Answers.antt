@@ -4,5 +4,5 @@ use Rattle.klumdray.proofs.traces.of_explanation.Goals as goal
 pub returns-in-NotReached : goal.returns-in-NotReached
 returns-in-NotReached c = rw c.in-NotReached.is c.of_stop.ensures
 
-pub returns-in-Refused : goal.returns-in-Refused
-returns-in-Refused c = rw c.in-Refused.is c.number.ensures
+pub returns-in-Err : goal.returns-in-Err
+returns-in-Err c = rw c.in-Err.is c.number.ensures

@@ -11,14 +11,14 @@ returns-then-does_pass c =
     let a = c.args in
     let st = stores a.project.now a.own.now in
     let reason = why-not.ensures ∙ noted-passage c.requires st a.query.kind a.query.destination a.direction a.coupler _ c.ranges.coupler.fits in
-    hand-goes _ _ a.query _ _ c.in-Going.is reason c.does_pass.ensures c.if-does_pass.true c.hopped.ensures
+    hand-goes _ _ a.query _ _ c.in-Ok.is reason c.does_pass.ensures c.if-does_pass.true c.hopped.ensures
 
-pub returns-in-Stopped : goal.returns-in-Stopped
-returns-in-Stopped c = hand-stopped _ _ c.args.query _ _ c.in-Stopped.is
+pub returns-in-Err : goal.returns-in-Err
+returns-in-Err c = hand-stopped _ _ c.args.query _ _ c.in-Err.is
 
 pub returns-else-does_pass : goal.returns-else-does_pass
 returns-else-does_pass c =
     let a = c.args in
     let st = stores a.project.now a.own.now in
     let reason = c.why_not-reason.ensures ∙ noted-passage c.requires st a.query.kind a.query.destination a.direction a.coupler _ c.ranges.coupler.fits in
-    hand-stops _ _ a.query _ _ c.in-Going.is reason c.does_pass.ensures c.if-does_pass.false
+    hand-stops _ _ a.query _ _ c.in-Ok.is reason c.does_pass.ensures c.if-does_pass.false
