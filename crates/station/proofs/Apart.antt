@@ -2,7 +2,6 @@
 use Rattle.std.specs.Prelude.{Result, Ok, Err}
 use Prim.Native.Nat.{ℕ}
 use mathlib.Core.Path.{◌≡◌, ap}
-use native.Mathlib.Omega.{arith}
 use Rattle.frame.specs.declared.Refusal.{Refusal}
 use Rattle.station.specs.declared.Telegram.{Telegram}
 use Rattle.station.specs.declared.Telegram.TheVariants.{Increment, Repetition, OtherGroup, NoIncrement}
@@ -19,4 +18,3 @@ apart t u e n = absurd (n (ap place e))
 
 pub increment-one : {c d : ℕ} → ◌≡◌ {A = Result Telegram Refusal} (Ok (Increment c)) (Ok (Increment d)) → c ≡ d
 increment-one e = cc
-

@@ -32,7 +32,12 @@ fn of_carried(carried: Option<u16>) -> Result<Telegram, Refusal>
 }
 
 // An accepted frame, beside the one that is remembered (no octets: none).
-fn of_frame(group: u16, remembered: &[u8], octets: &[u8], meaning: Meaning) -> Result<Telegram, Refusal>
+fn of_frame(
+    group: u16,
+    remembered: &[u8],
+    octets: &[u8],
+    meaning: Meaning,
+) -> Result<Telegram, Refusal>
     ensures { result ≡ telegram_by group remembered.now octets.now meaning }
 {
     let addressed = meaning.group & (meaning.destination == group);
