@@ -5,16 +5,15 @@ use mathlib.Core.List.{List, [], ◌∷◌, ◌++◌}
 use mathlib.Core.Path.{◌≡◌, ap, ◌∙◌}
 use lib.Dec.{ltb}
 use lib.ListN.{length}
-use Rattle.frame.proofs.Order.{first-passed, first-refused}
 use Rattle.frame.specs.Order.{Test, answer_by, ◌gives◌}
 use Rattle.frame.specs.declared.Refusal.TheVariants.{LeftOver}
 use Rattle.frame.specs.declared.Refusal.{Refusal}
 use Rattle.channels.specs.Calls.{Called}
 use Rattle.channels.specs.Table.{channel_at, put}
 use Rattle.channels.specs.declared.Channel.{Channel}
-use Rattle.tunnelling.proofs.ConnectionLaws.{connection-verdict}
+use Rattle.tunnelling.proofs.ConnectionLaws.{connection-refused, connection-passed}
 use Rattle.tunnelling.specs.Layout.{acknowledgement_service}
-use Rattle.tunnelling.specs.Reading.{channel_in, connected_tests, read_connection}
+use Rattle.tunnelling.specs.Reading.{channel_in, read_connection}
 use Rattle.exchange.specs.Confirming.{is_sent, confirmed_by, confirmed, channel_confirmed, confirming}
 use Rattle.exchange.specs.Receiving.{channel_tests}
 use Rattle.exchange.specs.Stages.{confirmed_behind}
@@ -25,13 +24,13 @@ module _ (c : Channel) (s : List ℕ) where
   unfolding confirmed
   connection-refuses r e =
       let us : List Test = channel_tests c (is_sent c s) ++ (ltb 10 (length s) gives LeftOver ∷ []) in
-      ap (answer_by Err (confirmed_by s)) (first-refused (connected_tests acknowledgement_service s) us r (connection-verdict acknowledgement_service s e))
+      ap (answer_by Err (confirmed_by s)) (connection-refused acknowledgement_service s us e)
 
   pub connection-passes : read_connection acknowledgement_service s ≡ Ok tt → confirmed c s ≡ confirmed_behind c s
   unfolding confirmed confirmed_behind
   connection-passes e =
       let us : List Test = channel_tests c (is_sent c s) ++ (ltb 10 (length s) gives LeftOver ∷ []) in
-      ap (answer_by Err (confirmed_by s)) (first-passed (connected_tests acknowledgement_service s) us (connection-verdict acknowledgement_service s e))
+      ap (answer_by Err (confirmed_by s)) (connection-passed acknowledgement_service s us e)
 
 pub settled : (cs : List Channel) (s : List ℕ) {k : ℕ} {c c' : Channel} {a : Result Confirmed Refusal} {cs' : List Channel}
     → k ≡ channel_in s → c ≡ channel_at cs k → a ≡ confirmed c s → c' ≡ channel_confirmed a c → cs' ≡ put cs k c' → Called (confirming s) cs a cs'

@@ -94,7 +94,7 @@ module _ (c : Channel) (s : List ℕ) where
           (λ e. let n = w.0 e in go (is_expected c s) refl n.1 (arrived room n.0).0),
           λ g.
               let e : is_expected c s ≡ true = expected-iff.1 (counted-as g.0 ∙ g.1) in
-              w.1 (arrives room x g.0 (ap (λ (b : Bool). b || is_behind c s) e), ap (λ (b : Bool). taken_as b s) e ∙ ap (Ok (Delivered (same g.0)))),
+              w.1 (arrives room x g.0 (ap (λ (b : Bool). b || is_behind c s) e), ap (λ (b : Bool). taken_as b s) e ∙ ap (λ (y : Request). Ok (Delivered y)) (same g.0)),
         )
       where
         go : (b : Bool) → is_expected c s ≡ b → taken_as b s ≡ Ok (Delivered x) → Arrives room (request_in s) → Arrives room x × (x.counter ≡ c.receive)
@@ -102,7 +102,7 @@ module _ (c : Channel) (s : List ℕ) where
         go false e f a = delivered-again (sym f)
 
     -- acknowledged again exactly if it is one behind
-    pub again-iff : received c s room ≡ (Ok Again) ↔ ((x : Request) × (Arrives room x × (raised x.counter ≡ c.receive)))
+    pub again-iff : received c s room ≡ Ok Again ↔ ((x : Request) × (Arrives room x × (raised x.counter ≡ c.receive)))
     again-iff =
         let w = taken-iff (Ok Again) (λ r. err-ok) in (
           (λ e. let n = w.0 e in let g = arrived room n.0 in go (is_expected c s) refl n.1 g.1 g.0),
@@ -115,7 +115,7 @@ module _ (c : Channel) (s : List ℕ) where
         unexpected : raised (counter_in s) ≡ c.receive → is_expected c s ≡ false
         unexpected f = by_cases (is_expected c s) (λ e. absurd (raised-other (counter_in s) (f ∙ sym (expected-iff.0 e)))) (λ e. e)
 
-        go : (b : Bool) → is_expected c s ≡ b → taken_as b s ≡ (Ok Again) → known ≡ true → Arrives room (request_in s) → (x : Request) × (Arrives room x × (raised x.counter ≡ c.receive))
+        go : (b : Bool) → is_expected c s ≡ b → taken_as b s ≡ Ok Again → known ≡ true → Arrives room (request_in s) → (x : Request) × (Arrives room x × (raised x.counter ≡ c.receive))
         go true e f k a = delivered-again f
         go false e f k a = (request_in s, (a, behind-iff.0 (rw e at k)))
 
@@ -173,31 +173,35 @@ module _ (c : Channel) (s : List ℕ) where
   unfolding confirmed
   settled-iff = answer-iff Err (λ q r. err-one) (confirm_tests c s) (confirmed_by s)
 
+  -- what its status comes to
+  abbrev outcome : Bool → Result Confirmed Refusal
+  outcome b = cond b (Ok Raised) (Ok Kept)
+
   -- raised exactly if such an acknowledgement has status 00h ..
-  pub raised-iff : confirmed c s ≡ (Ok Raised) ↔ ((a : Acknowledgement) × (Answers a × (a.status ≡ 0)))
+  pub raised-iff : confirmed c s ≡ Ok Raised ↔ ((a : Acknowledgement) × (Answers a × (a.status ≡ 0)))
   raised-iff =
       let w = settled-iff (Ok Raised) (λ r. err-ok) in (
         (λ e. let n = w.0 e in (acknowledgement_in s, (answering n.0, go (eqb (status_in s) 0) refl n.1))),
         λ g.
             let n = answers g.0 g.1.0 in
-            w.1 (n.0, ap (λ (b : Bool). cond b (Ok Raised) (Ok Kept)) (eq-eqb (status_in s) 0 (ap (λ (b : Acknowledgement). b.status) n.1 ∙ g.1.1))),
+            w.1 (n.0, ap outcome (eq-eqb (status_in s) 0 (ap (λ (b : Acknowledgement). b.status) n.1 ∙ g.1.1))),
       )
     where
-      go : (b : Bool) → eqb (status_in s) 0 ≡ b → cond b (Ok Raised) (Ok Kept) ≡ (Ok Raised) → status_in s ≡ 0
+      go : (b : Bool) → eqb (status_in s) 0 ≡ b → outcome b ≡ Ok Raised → status_in s ≡ 0
       go true e f = eqb-true (status_in s) 0 e
       go false e f = raised-kept (sym f)
 
   -- .. and kept exactly if it has another
-  pub kept-iff : confirmed c s ≡ (Ok Kept) ↔ ((a : Acknowledgement) × (Answers a × (a.status ≡ 0 → ⊥)))
+  pub kept-iff : confirmed c s ≡ Ok Kept ↔ ((a : Acknowledgement) × (Answers a × (a.status ≡ 0 → ⊥)))
   kept-iff =
       let w = settled-iff (Ok Kept) (λ r. err-ok) in (
         (λ e. let n = w.0 e in (acknowledgement_in s, (answering n.0, go (eqb (status_in s) 0) refl n.1))),
         λ g.
             let n = answers g.0 g.1.0 in
-            w.1 (n.0, ap (λ (b : Bool). cond b (Ok Raised) (Ok Kept)) (ne_eqb (status_in s) 0 (λ z. g.1.1 (ap (λ (b : Acknowledgement). b.status) (sym n.1) ∙ z)))),
+            w.1 (n.0, ap outcome (ne_eqb (status_in s) 0 (λ z. g.1.1 (ap (λ (b : Acknowledgement). b.status) (sym n.1) ∙ z)))),
       )
     where
-      go : (b : Bool) → eqb (status_in s) 0 ≡ b → cond b (Ok Raised) (Ok Kept) ≡ (Ok Kept) → status_in s ≡ 0 → ⊥
+      go : (b : Bool) → eqb (status_in s) 0 ≡ b → outcome b ≡ Ok Kept → status_in s ≡ 0 → ⊥
       go true e f = raised-kept f
       go false e f = eqb-false (status_in s) 0 e
 
@@ -209,7 +213,7 @@ module _ (c : Channel) (s : List ℕ) where
       let w = refusal-once Err (λ q r. err-one) (take k (confirm_tests c s)) (drop (suc k) (confirm_tests c s)) b (confirmed_by s) r (no-refusal (eqb (status_in s) 0)) g h in
       rw (← e) at w
     where
-      no-refusal : (x : Bool) → Err r ≡ cond x (Ok Raised) (Ok Kept) → ⊥
+      no-refusal : (x : Bool) → Err r ≡ outcome x → ⊥
       no-refusal true = err-ok
       no-refusal false = err-ok
 

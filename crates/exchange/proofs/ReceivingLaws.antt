@@ -10,7 +10,7 @@ use lib.ListN.{length}
 use borrow.Author.Tests.{le-ltb, ltb-false}
 use Rattle.octets.proofs.Room.{laid-front}
 use Rattle.octets.specs.Room.{laid, over}
-use Rattle.frame.proofs.Order.{passed-iff, refused-iff, first-passed, first-refused}
+use Rattle.frame.proofs.Order.{passed-iff, refused-iff, first-passed}
 use Rattle.frame.specs.Order.{Test, first_of, answer_by, ◌gives◌}
 use Rattle.frame.specs.declared.Refusal.TheVariants.{SmallRoom}
 use Rattle.frame.specs.declared.Refusal.{Refusal}
@@ -21,7 +21,7 @@ use Rattle.cemi.specs.declared.Message.{Message}
 use Rattle.channels.proofs.CallLaws.{called-one}
 use Rattle.channels.specs.Table.{channel_at, put}
 use Rattle.channels.specs.declared.Channel.{Channel}
-use Rattle.tunnelling.proofs.ConnectionLaws.{connection-verdict}
+use Rattle.tunnelling.proofs.ConnectionLaws.{connection-refused, connection-passed}
 use Rattle.tunnelling.proofs.LayoutLaws.{length-acknowledgement}
 use Rattle.tunnelling.specs.Layout.{request_service}
 use Rattle.tunnelling.specs.Reading.{channel_in, counter_in, message, connected_tests, read_connection}
@@ -60,14 +60,14 @@ module _ (s : List ℕ) where
       connection-refuses r e =
           let us : List Test = channel_tests c (is_expected c s || is_behind c s) ++ cemi_tests All (message s) in
           let ts : List Test = connected_tests request_service s in
-          ap (answer_by Err (taken_as (is_expected c s) s)) (past_room (ts ++ us) ∙ first-refused ts us r (connection-verdict request_service s e))
+          ap (answer_by Err (taken_as (is_expected c s) s)) (past_room (ts ++ us) ∙ connection-refused request_service s us e)
 
       pub connection-passes : read_connection request_service s ≡ Ok tt → received c s room ≡ received_behind c s
       unfolding received received_behind
       connection-passes e =
           let us : List Test = channel_tests c (is_expected c s || is_behind c s) ++ cemi_tests All (message s) in
           let ts : List Test = connected_tests request_service s in
-          ap (answer_by Err (taken_as (is_expected c s) s)) (past_room (ts ++ us) ∙ first-passed ts us (connection-verdict request_service s e))
+          ap (answer_by Err (taken_as (is_expected c s) s)) (past_room (ts ++ us) ∙ connection-passed request_service s us e)
 
 -- the acknowledgement has room: nothing is sent back where the room is below 10
 refused-small : (c : Channel) (s : List ℕ) (room : ℕ) → ltb room 10 ≡ true → received c s room ≡ Err SmallRoom
