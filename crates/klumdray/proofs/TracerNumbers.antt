@@ -195,7 +195,7 @@ record Stops (stop : Stop) : Type 0 where
   coupler : stop.coupler < 256
   direction : stop.direction < 2
 
-reached-apart : {A : Type 0} (stop : Stop) → Ok None ≡ Ok (Some stop) → A
+reached-apart : {A : Type 0} (stop : Stop) → ◌≡◌ {A = Result (Option Stop) Refusal} (Ok None) (Ok (Some stop)) → A
 reached-apart stop e = let z : ◌≡◌ {A = ℕ} 0 1 = cc in absurd (omega arith)
 
 stops : (st : Stores) (site : List ℕ) (q : Query) (line : ℕ) (stop : Stop) → q.count ≤ 7 → q.start < 256 → line < 256 → why_of st site q line ≡ Ok (Some stop) → Stops stop
@@ -208,7 +208,7 @@ stops st site q line stop c h k e = by_cases (is_listed (crossing_passes st site
     unlisted l =
         let n = not-reached st site q c line l in
         let x = n.1.1 in
-        let same : (Ok (Some stop)) ≡ Ok (Some n.0) = sym e ∙ n.1.0 in
+        let same : ◌≡◌ {A = Result (Option Stop) Refusal} (Ok (Some stop)) (Ok (Some n.0)) = sym e ∙ n.1.0 in
         let is : stop ≡ n.0 = cc in
         let told = is ∙ x.told in
         let w : Small x.here = small-here x.ahead x.behind x.here (subst AllSmall x.place (path-small q.start line h k)) in

@@ -7,7 +7,7 @@ use mathlib.Core.Path.{◌≡◌, refl, sym, ap, ◌∙◌}
 use native.Mathlib.Omega.{arith}
 use lib.Dec.{eqb}
 use lib.ListN.{length, get_or}
-use Rattle.frame.proofs.Apart.{err-ok, err-one, ok-one, results-differ}
+use Rattle.frame.proofs.Apart.{err-ok, err-one, ok-one}
 use Rattle.cemi.proofs.RoundTrip.{read-laid as cemi-laid}
 use Rattle.cemi.specs.Answers.{message_values, cemi_numbered}
 use Rattle.cemi.specs.Reading.{payload_in as cemi_payload}
@@ -94,12 +94,12 @@ request-answer s (Ok x) p v n =
     let c = v x refl in
     let t = message-told s x p c in
     record {
-      told = tells-accepted (none s x p c) (λ r e. results-differ.never_both x r (sym e)) t.told.fits (request-decoded s x p c);
+      told = tells-accepted (none s x p c) (λ r e. err-ok (sym e)) t.told.fits (request-decoded s x p c);
       size = t.size;
       some = t.some;
     }
 request-answer s (Err q) p v n = record {
-  told = tells-refused q refl refl (λ r. results-differ.refusal-one q r) (omega arith) (rw (number-alone q, refused-number q));
+  told = tells-refused q refl refl (λ r. err-one) (omega arith) (rw (number-alone q, refused-number q));
   size = rw (n q refl) (omega (arith, (number-listed q).1));
   some = λ z. absurd (number-some q (sym (number-alone q) ∙ z));
 }
@@ -119,13 +119,13 @@ module _ (a : Acknowledgement) (k : a.channel < 256) (n : a.counter < 256) (u : 
   ack-told =
       let field = read_back ack_fields (acknowledged_number (Ok a)) ack-fit ack-packed in
       let z : number_in (acknowledged_number (Ok a)) ≡ 0 = field 0 (omega arith) in
-      tells-accepted z (λ r e. results-differ.never_both a r (sym e)) (below ack_fields (acknowledged_number (Ok a)) ack-fit ack-packed)
+      tells-accepted z (λ r e. err-ok (sym e)) (below ack_fields (acknowledged_number (Ok a)) ack-fit ack-packed)
       (rw (z, field 1 (omega arith), field 2 (omega arith), field 3 (omega arith)))
 
 ack-answer : (a : Result Acknowledgement Refusal) → ((b : Acknowledgement) → a ≡ Ok b → (b.channel < 256) × ((b.counter < 256) × (b.status < 256)))
     → Tells 32 acknowledged_from (acknowledged_number a) (acknowledgement_numbered a) (λ r. a ≡ Err r)
 ack-answer (Ok b) h = let f = h b refl in ack-told b f.0 f.1.0 f.1.1
-ack-answer (Err q) h = tells-refused q refl refl (λ r. results-differ.refusal-one q r) (omega arith) (rw (number-alone q, refused-number q))
+ack-answer (Err q) h = tells-refused q refl refl (λ r. err-one) (omega arith) (rw (number-alone q, refused-number q))
 
 module _ (s : List ℕ) (o : Octets s) where
   pub request-tells : TellsReading 59 (request_from s) (request_answered s) (request_numbered (read_request s)) (λ r. read_request s ≡ Err r) (request_payload (read_request s) s)

@@ -66,7 +66,12 @@ fn put(block: &mut [u8], number: u8, place: u8, octet: u8)
     }
 }
 
-pub(crate) fn raise_received(answer: Result<Received, Refusal>, channel: Channel, number: u8, block: &mut [u8])
+pub(crate) fn raise_received(
+    answer: Result<Received, Refusal>,
+    channel: Channel,
+    number: u8,
+    block: &mut [u8],
+)
     ensures { block.new ≡ block_received answer channel number block.old }
 {
     match answer {
@@ -76,7 +81,12 @@ pub(crate) fn raise_received(answer: Result<Received, Refusal>, channel: Channel
     }
 }
 
-pub(crate) fn raise_confirmed(answer: Result<Confirmed, Refusal>, channel: Channel, number: u8, block: &mut [u8])
+pub(crate) fn raise_confirmed(
+    answer: Result<Confirmed, Refusal>,
+    channel: Channel,
+    number: u8,
+    block: &mut [u8],
+)
     ensures { block.new ≡ block_confirmed answer channel number block.old }
 {
     match answer {

@@ -4,8 +4,8 @@ ghost use Rattle.octets.specs.Room.{laid};
 ghost use Rattle.klumdray.specs.Litres.{in_bits, signed_of, value_number, coded_number, carried_number, total_in, total_octets, added_number, telegram_number};
 ghost use Rattle.klumdray.specs.Stages.{sum_laid, taken_laid, is_accepted};
 
-use station::{Tally, Telegram};
 use frame::Refusal;
+use station::{Tally, Telegram};
 
 // A signed number as its 64 bits of two's complement, and back.
 fn bits_of(number: i64) -> u64

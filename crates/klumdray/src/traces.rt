@@ -5,9 +5,9 @@ ghost use Rattle.passing.specs.Answers.{passage_number};
 ghost use Rattle.klumdray.specs.Traces.{query_fits, traced_number, explanation_number};
 
 use crate::numbers;
+use frame::Refusal;
 use passing::Passage;
 use tracer::{Query, Stop, Traced};
-use frame::Refusal;
 
 pub(crate) fn query_fits(start: u32, kind: u32, destination: u32, count: u32) -> bool
     ensures { result ≡ query_fits (query_of start kind destination count) }
