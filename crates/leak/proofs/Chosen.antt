@@ -8,13 +8,19 @@ use lib.Dec.{ltb, leb, eqb}
 use lib.Pow.{pow_mono}
 use lib.IntN.{ℤ, pos, negsuc, neg_ℤ}
 use lib.Signed.{le_z}
+use mir.Syntax.{w32}
+use mir.Val.{SFits}
 use borrow.Author.Tests.{le-leb, leb-true, ltb-true, ltb-false, eqb-true, eqb-false}
+use Rattle.std.specs.Prelude.{Ok}
+use Rattle.frame.proofs.Apart.{err-ok, ok-one}
 use Rattle.octets.proofs.Truth.{by_cases, never, and-true}
 use Rattle.leak.specs.Float.{exponent_of, mantissa_of, hundredths_of}
 use Rattle.leak.specs.Nearest.{Chosen}
+use Rattle.leak.specs.Reading.{read_code}
 use Rattle.leak.specs.Writing.{nearest_to, nearest_m, fits_m, smallest_e, code_of, code_for, in_reach}
 use Rattle.leak.specs.Stages.{exponent_under}
 use Rattle.leak.proofs.Codes.{mantissa-plus, mantissa-minus}
+use Rattle.leak.proofs.Exactly.{read-invalid, read-valid}
 use Rattle.leak.proofs.NearestM.{nearest-is, nearest-one}
 use Rattle.leak.proofs.Scale.{power-most}
 use Rattle.leak.proofs.Smallest.{plus-code, plus-bounds, plus-meets, minus-code, minus-bounds}
@@ -137,3 +143,13 @@ code-valid (negsuc a) r =
     let b = minus-bounds a (exponent_under 2048 (suc a)) (nearest_to (suc a) (2 ^ exponent_under 2048 (suc a))) h refl refl in
     let s = minus-code a (exponent_under 2048 (suc a)) (nearest_to (suc a) (2 ^ exponent_under 2048 (suc a))) refl refl b.2 in
     (omega (arith, b.0, b.1, b.2), λ x. omega arith)
+
+-- and so what the reader answers has 32 bits
+reach-fits : (z : ℤ) → Reach z → SFits w32 z
+reach-fits (pos a) r = record { sfits = omega (arith, leb-true a 67043328 r.upper) }
+reach-fits (negsuc a) r = record { sfits = omega (arith, leb-true a 67108863 r.lower) }
+
+pub read-fits : (code : ℕ) → code < 65536 → {v : ℤ} → read_code code ≡ Ok v → SFits w32 v
+read-fits code h {v} e =
+    let n : code ≡ 0x7FFF → ⊥ = λ x. err-ok (sym (read-invalid code x) ∙ e) in
+    rw (ok-one (sym e ∙ read-valid code n)) (reach-fits (hundredths_of code) (value-reach code h n))

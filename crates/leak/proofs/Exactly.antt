@@ -1,14 +1,18 @@
 -- What each call answers, by the one fact that decides it.
 use Rattle.std.specs.Prelude.{Ok, Err}
 use Prim.Native.Nat.{ℕ, ◌+◌, ◌*◌, ◌/◌, ◌%◌, ◌^◌, ◌<◌}
-use mathlib.Core.Bool.{true, false}
-use mathlib.Core.Path.{◌≡◌}
+use mathlib.Core.Bool.{true, false, not}
+use mathlib.Core.List.{[], ◌∷◌}
+use mathlib.Core.Path.{◌≡◌, ap, ◌∙◌}
 use native.Mathlib.Omega.{arith}
 use lib.IntN.{ℤ, pos, sub_ℕ, ◌+ℤ◌, ◌*ℤ◌}
 use borrow.Author.Tests.{eq-eqb, ne_eqb}
+use Rattle.frame.proofs.Order.{refused-before, passed-before}
+use Rattle.frame.specs.Order.{◌gives◌, first_of, answer_by}
+use Rattle.frame.specs.declared.Refusal.{Refusal}
 use Rattle.frame.specs.declared.Refusal.TheVariants.{OutOfRange, Invalid, PastTotal}
 use Rattle.leak.specs.Float.{mantissa_of, hundredths_of}
-use Rattle.leak.specs.Reading.{read_code}
+use Rattle.leak.specs.Reading.{code_tests, read_code}
 use Rattle.leak.specs.Total.{in_total, add_to}
 use Rattle.leak.specs.Writing.{code_for, in_reach, write_code}
 
@@ -52,3 +56,22 @@ module _ (total : ℤ) (code : ℕ) where
   pub add-within : (code ≡ 0x7FFF → ⊥) → in_total (total +ℤ hundredths_of code) ≡ true → add_to total code ≡ Ok (total +ℤ hundredths_of code)
   unfolding add_to
   add-within n e = rw (ne_eqb code 0x7FFF n, e)
+
+  -- what the reader refuses, adding refuses
+  pub add-unread : {r : Refusal} → read_code code ≡ Err r → add_to total code ≡ Err r
+  unfolding add_to read_code
+  add-unread = refused-before (code_tests code) (not (in_total (total +ℤ hundredths_of code)) gives PastTotal ∷ []) (hundredths_of code) (total +ℤ hundredths_of code)
+
+  -- and what it reads is added within the range, and refused past it
+  module _ {v : ℤ} (read : read_code code ≡ Ok v) where
+    behind : (hundredths_of code ≡ v) × (add_to total code ≡ answer_by Err (Ok (total +ℤ hundredths_of code)) (first_of (not (in_total (total +ℤ hundredths_of code)) gives PastTotal ∷ [])))
+    unfolding add_to read_code
+    behind =
+        let w = passed-before (code_tests code) (not (in_total (total +ℤ hundredths_of code)) gives PastTotal ∷ []) (hundredths_of code) (total +ℤ hundredths_of code) read in
+        (w.0, ap (answer_by Err (Ok (total +ℤ hundredths_of code))) w.1)
+
+    pub read-within : in_total (total +ℤ v) ≡ true → add_to total code ≡ Ok (total +ℤ v)
+    read-within e = behind.1 ∙ rw (behind.0, e)
+
+    pub read-past : in_total (total +ℤ v) ≡ false → add_to total code ≡ Err PastTotal
+    read-past e = behind.1 ∙ rw (behind.0, e)

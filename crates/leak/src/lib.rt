@@ -70,15 +70,11 @@ pub fn increment(payload: &[u8]) -> Option<u16>
 pub fn add(total: i64, code: u16) -> Result<i64, Refusal>
     ensures { result ≡ add_to total code }
 {
-    if code == 0x7FFF {
-        Err(Refusal::Invalid)
+    let value = i64::from(read(code)?);
+    if adding::stays(total, value) {
+        let sum = total + value;
+        Ok(sum)
     } else {
-        let value = reading::hundredths(code) as i64;
-        if adding::stays(total, value) {
-            let sum = total + value;
-            Ok(sum)
-        } else {
-            Err(Refusal::PastTotal)
-        }
+        Err(Refusal::PastTotal)
     }
 }
