@@ -1,5 +1,5 @@
 -- A call of the surface is the inner call behind a test whether the numbers fit: of the writers said once for every format.
-use Rattle.std.specs.Prelude.{Result, Ok, Err, Option}
+use Rattle.std.specs.Prelude.{Result, Ok, Err, Option, Some, None}
 use Prim.Native.Nat.{ℕ, ◌%◌, ◌^◌, ◌≤◌, ◌<◌}
 use mathlib.Core.Bool.{Bool, true, false, cond, ◌&&◌}
 use mathlib.Core.List.{List}
@@ -8,14 +8,14 @@ use native.Mathlib.Omega.{arith}
 use lib.Dec.{ltb, eqb}
 use lib.ListN.{length}
 use borrow.Author.Tests.{ltb-true}
-use Rattle.cemi.specs.declared.Message.{Message}
+use Rattle.frame.proofs.Apart.{none-some, some-one}
 use Rattle.frame.proofs.Writing.{unranged-iff, put-iff}
 use Rattle.frame.specs.Order.{first_of}
 use Rattle.frame.specs.Writing.{written, room_after, Wrote}
 use Rattle.frame.specs.declared.Meaning.{Meaning}
 use Rattle.frame.specs.declared.Refusal.TheVariants.{OutOfRange}
-use Rattle.klumdray.specs.Numbers.{flags_of, meaning_number, code_number, are_flags, are_octets, are_words, are_numbers, are_marks, are_connected, meaning_from, message_from, acknowledgement_from, written_number, WroteNumber}
-use Rattle.klumdray.specs.Stages.{Sized}
+use Rattle.klumdray.specs.Numbers.{flags_of, meaning_number, code_number, are_octets, are_words, are_marks, are_connected, written_number, WroteNumber}
+use Rattle.klumdray.specs.Stages.{Sized, given}
 use Rattle.klumdray.specs.Traces.{traced_number, explanation_number, query_fits, trace_through_tests, TracedThrough, why_through}
 use Rattle.octets.proofs.Truth.{and-true, and_yes}
 use Rattle.octets.proofs.Weigh.{weigh-most}
@@ -26,7 +26,6 @@ use Rattle.tracer.specs.Tracing.{trace_tests, traced_by, list_by, DidTrace}
 use Rattle.tracer.specs.Why.{answer_why}
 use Rattle.tracer.specs.declared.Traced.{Traced}
 use Rattle.tracer.specs.declared.Query.{Query}
-use Rattle.tunnelling.specs.declared.Acknowledgement.{Acknowledgement}
 use Rattle.frame.specs.declared.Refusal.{Refusal}
 use Rattle.tracer.specs.declared.Stop.{Stop}
 
@@ -48,28 +47,25 @@ unfit-refused fit ranged octets room f =
     let a : written (fit && ranged) octets room ≡ Err OutOfRange = (unranged-iff (fit && ranged) octets room).1 (rw f) in
     record { answered = sym (ap written_number a); left = sym (ap (λ (v : Result ℕ Refusal). room_after v octets room) a) }
 
--- a writer that has no range but that the numbers fit
+pub unfit-wrote : (fit ranged : Bool) (octets room : List ℕ) → fit ≡ false → Wrote (fit && ranged) octets room (Err OutOfRange) room
+unfit-wrote fit ranged octets room f =
+    let a : written (fit && ranged) octets room ≡ Err OutOfRange = (unranged-iff (fit && ranged) octets room).1 (rw f) in
+    record { answered = sym a; left = refl }
 
+apart : (a b c : Bool) → a && (b && c) ≡ a && b && c
+apart true b c = refl
+apart false b c = refl
+
+-- two tests, of which the second stands before the inner writer
+pub wrote-both : (fit also ranged : Bool) {octets room after : List ℕ} {r : ℕ} → WroteNumber (fit && (also && ranged)) octets room r after → WroteNumber (fit && also && ranged) octets room r after
+wrote-both fit also ranged {octets} {room} {after} {r} = subst (λ (b : Bool). WroteNumber b octets room r after) (apart fit also ranged)
+
+-- a writer that has no range but that the numbers fit
 pub wrote-fit : {fit : Bool} {octets room after : List ℕ} {r : ℕ} (w : Result ℕ Refusal) → fit ≡ true → Wrote true octets room w after → r ≡ written_number w → WroteNumber fit octets room r after
 wrote-fit {fit} {octets} {room} {after} {r} w f x e = subst (λ (b : Bool). WroteNumber b octets room r after) (and_yes fit) (wrote-number w f x e)
 
 pub unfit-alone : (fit : Bool) (octets room : List ℕ) → fit ≡ false → WroteNumber fit octets room 14 room
 unfit-alone fit octets room f = subst (λ (b : Bool). WroteNumber b octets room 14 room) (and_yes fit) (unfit-refused fit true octets room f)
-
--- the tests as the code makes them
-pub tested : {flags octets words flags' octets' words' b : Bool} → flags ≡ flags' → octets ≡ octets' → words ≡ words' → flags && octets && words ≡ b → flags' && octets' && words' ≡ b
-tested f o w h = rw (← f, ← o, ← w) h
-
-pub tested-marks : {flags octets words marks flags' octets' words' marks' b : Bool} → flags ≡ flags' → octets ≡ octets' → words ≡ words' → marks ≡ marks' → flags && octets && words && marks ≡ b → flags' && octets' && words' && marks' ≡ b
-tested-marks f o w m h = rw (← f, ← o, ← w, ← m) h
-
-pub tested-connected : {flags octets words marks connected flags' octets' words' marks' connected' b : Bool} → flags ≡ flags' → octets ≡ octets' → words ≡ words' → marks ≡ marks' → connected ≡ connected'
-    → flags && octets && words && marks && connected ≡ b → flags' && octets' && words' && marks' && connected' ≡ b
-tested-connected f o w m k h = rw (← f, ← o, ← w, ← m, ← k) h
-
-pub tested-block : {right flags octets words marks right' flags' octets' words' marks' b : Bool} → right ≡ right' → flags ≡ flags' → octets ≡ octets' → words ≡ words' → marks ≡ marks'
-    → right && (flags && octets && words && marks) ≡ b → right' && (flags' && octets' && words' && marks') ≡ b
-tested-block k f o w m h = rw (← k, ← f, ← o, ← w, ← m) h
 
 -- a number that fits is its own remainder: what the inner writer is handed is what the caller gives
 
@@ -78,33 +74,6 @@ octet-kept n e = omega (arith, ltb-true n 256 e)
 
 pub word_kept : (n : ℕ) → ltb n 65536 ≡ true → n % 65536 ≡ n
 word_kept n e = omega (arith, ltb-true n 65536 e)
-
-pub meaning-kept : (extended first priority source group destination count : ℕ) {m : Meaning} → are_numbers extended first priority source group destination count ≡ true
-    → m ≡ meaning_from extended first (priority % 256) (source % 65536) group (destination % 65536) (count % 256) → m ≡ meaning_from extended first priority source group destination count
-unfolding are_octets are_words
-meaning-kept extended first priority source group destination count e h =
-    let both = and-true (are_flags extended first group && are_octets priority count) (are_words source destination) e in
-    let octets = and-true (ltb priority 256) (ltb count 256) (and-true (are_flags extended first group) (are_octets priority count) both.0).1 in
-    let words = and-true (ltb source 65536) (ltb destination 65536) both.1 in
-    rw (octet-kept priority octets.0, octet-kept count octets.1, word_kept source words.0, word_kept destination words.1) at h
-
-pub message-kept : (code error : ℕ) {m : Meaning} {x : Message} → are_marks code error ≡ true → x ≡ message_from (code % 256) error m → x ≡ message_from code error m
-unfolding are_marks
-message-kept code error e h = rw (octet-kept code (and-true (ltb code 256) (ltb error 2) e).0) at h
-
-pub octets-kept : (channel counter : ℕ) → are_octets channel counter ≡ true → (channel % 256 ≡ channel) × (counter % 256 ≡ counter)
-unfolding are_octets
-octets-kept channel counter e =
-    let both = and-true (ltb channel 256) (ltb counter 256) e in
-    (octet-kept channel both.0, octet-kept counter both.1)
-
-pub acknowledgement-kept : (channel counter status : ℕ) {a : Acknowledgement} → are_connected channel counter status ≡ true
-    → a ≡ acknowledgement_from (channel % 256) (counter % 256) (status % 256) → a ≡ acknowledgement_from channel counter status
-unfolding are_connected
-acknowledgement-kept channel counter status e h =
-    let both = and-true (ltb channel 256 && ltb counter 256) (ltb status 256) e in
-    let first = and-true (ltb channel 256) (ltb counter 256) both.0 in
-    rw (octet-kept channel first.0, octet-kept counter first.1, octet-kept status both.1) at h
 
 -- the same of the tracer's calls
 
@@ -173,3 +142,38 @@ code-most c = go (eqb c 0x11) (eqb c 0x2E) (eqb c 0x29)
 pub meaning-below : (m : Meaning) (k : ℕ) → m.source < 2 ^ 16 → m.destination < 2 ^ 16 → meaning_number m k < 2 ^ 56
 unfolding meaning_number flags_of
 meaning-below m k s d = omega (arith, weigh-most m.extended 1, weigh-most m.first 2, weigh-most m.group 16)
+
+-- what a caller's numbers give: a value where they fit, none where they don't
+
+pub given-fits : {A : Type 0} (fit : Bool) {x y : A} {g : Option A} → g ≡ given fit x → g ≡ Some y → (fit ≡ true) × (y ≡ x)
+given-fits true e s = (refl, some-one (sym s ∙ e))
+given-fits false e s = none-some (sym e ∙ s)
+
+pub given-none : {A : Type 0} (fit : Bool) (x : A) {g : Option A} → g ≡ given fit x → g ≡ None → fit ≡ false
+given-none true x e n = none-some (sym n ∙ e)
+given-none false x e n = refl
+
+-- numbers that pass the tests lose nothing in fewer bits
+
+pub octets-fit : (one other : ℕ) → are_octets one other ≡ true → (one < 256) × (other < 256)
+unfolding are_octets
+octets-fit one other e =
+    let both = and-true (ltb one 256) (ltb other 256) e in
+    (ltb-true one 256 both.0, ltb-true other 256 both.1)
+
+pub words-fit : (source destination : ℕ) → are_words source destination ≡ true → (source < 65536) × (destination < 65536)
+unfolding are_words
+words-fit source destination e =
+    let both = and-true (ltb source 65536) (ltb destination 65536) e in
+    (ltb-true source 65536 both.0, ltb-true destination 65536 both.1)
+
+pub code-fits : (code error : ℕ) → are_marks code error ≡ true → code < 256
+unfolding are_marks
+code-fits code error e = ltb-true code 256 (and-true (ltb code 256) (ltb error 2) e).0
+
+pub connected-fit : (channel counter status : ℕ) → are_connected channel counter status ≡ true → (channel < 256) × ((counter < 256) × (status < 256))
+unfolding are_connected
+connected-fit channel counter status e =
+    let outer = and-true (ltb channel 256 && ltb counter 256) (ltb status 256) e in
+    let inner = and-true (ltb channel 256) (ltb counter 256) outer.0 in
+    (ltb-true channel 256 inner.0, (ltb-true counter 256 inner.1, ltb-true status 256 outer.1))

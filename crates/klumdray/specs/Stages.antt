@@ -1,5 +1,5 @@
 -- The lent block and the numbers in stages: for the contracts of private functions. No public contract rests on these definitions.
-use Rattle.std.specs.Prelude.{ℕ, zero, suc, ◌+◌, ◌*◌, ◌%◌, ◌^◌, ◌<◌, List, [], ◌∷◌, Bool, true, false, cond, ℤ, length, ltb, leb, eqb, Result, Ok, Err}
+use Rattle.std.specs.Prelude.{ℕ, zero, suc, ◌+◌, ◌*◌, ◌%◌, ◌^◌, ◌<◌, List, [], ◌∷◌, Bool, true, false, cond, ℤ, length, ltb, leb, eqb, Result, Ok, Err, Option, Some, None}
 use Rattle.octets.specs.Octets.{octet_at}
 use Rattle.octets.specs.Word.{high, low, word_at}
 use Rattle.octets.specs.Room.{laid}
@@ -35,6 +35,10 @@ octet_in block (suc k) place = octet_at block (channel_size * k + place)
 
 abbrev pub held_channel : List ℕ → ℕ → Channel
 held_channel block n = record { opened = eqb (octet_in block n open_place) 0x01; receive = octet_in block n receive_place; send = octet_in block n send_place }
+
+-- what a caller's numbers give, where they fit
+abbrev pub given : {A : Type 0} → Bool → A → Option A
+given fit x = cond fit (Some x) None
 
 -- a size that its number holds
 abbrev pub Sized : Result ℕ Refusal → Type 0

@@ -21,6 +21,7 @@ ghost use Rattle.klumdray.specs.Numbers.{tp1_answered, cemi_answered, routing_an
 ghost use Rattle.klumdray.specs.Traces.{explanation_number, TracedThrough, why_through};
 
 use cemi::Codes;
+use frame::Refusal;
 
 pub fn klumdray_check_octet(octets: &[u8]) -> u32
     ensures { result ≡ check_octet octets.now }
@@ -49,24 +50,19 @@ pub fn klumdray_tp1_write(
 ) -> u64
     ensures { WroteTp1 (are_numbers extended first priority source group destination count) (meaning_from extended first priority source group destination count) payload.now room.old result room.new }
 {
-    let flags = numbers::are_flags(extended, first, group);
-    let octets = numbers::are_octets(priority, count);
-    let words = numbers::are_words(source, destination);
-    if flags & octets & words {
-        let meaning = numbers::meaning_from(
-            extended,
-            first,
-            priority,
-            source,
-            group,
-            destination,
-            count,
-        );
-        let written = tp1::write(meaning, payload, room);
-        numbers::of_written(written)
-    } else {
-        14
-    }
+    let Some(meaning) = numbers::meaning_given(
+        extended,
+        first,
+        priority,
+        source,
+        group,
+        destination,
+        count,
+    ) else {
+        return Refusal::OutOfRange.number() as u64;
+    };
+    let written = tp1::write(meaning, payload, room);
+    numbers::of_written(written)
 }
 
 pub fn klumdray_cemi_read(octets: &[u8]) -> u64
@@ -92,26 +88,21 @@ pub fn klumdray_cemi_write(
 ) -> u64
     ensures { WroteCemi (are_numbers extended first priority source group destination count && are_marks code error) (message_from code error (meaning_from extended first priority source group destination count)) payload.now room.old result room.new }
 {
-    let flags = numbers::are_flags(extended, first, group);
-    let octets = numbers::are_octets(priority, count);
-    let words = numbers::are_words(source, destination);
-    let marks = numbers::are_marks(code, error);
-    if flags & octets & words & marks {
-        let meaning = numbers::meaning_from(
-            extended,
-            first,
-            priority,
-            source,
-            group,
-            destination,
-            count,
-        );
-        let message = numbers::message_from(code, error, meaning);
-        let written = cemi::write(Codes::All, message, payload, room);
-        numbers::of_written(written)
-    } else {
-        14
-    }
+    let Some(message) = numbers::message_given(
+        code,
+        error,
+        extended,
+        first,
+        priority,
+        source,
+        group,
+        destination,
+        count,
+    ) else {
+        return Refusal::OutOfRange.number() as u64;
+    };
+    let written = cemi::write(Codes::All, message, payload, room);
+    numbers::of_written(written)
 }
 
 pub fn klumdray_routing_read(octets: &[u8]) -> u64
@@ -137,26 +128,21 @@ pub fn klumdray_routing_write(
 ) -> u64
     ensures { WroteRouting (are_numbers extended first priority source group destination count && are_marks code error) (message_from code error (meaning_from extended first priority source group destination count)) payload.now room.old result room.new }
 {
-    let flags = numbers::are_flags(extended, first, group);
-    let octets = numbers::are_octets(priority, count);
-    let words = numbers::are_words(source, destination);
-    let marks = numbers::are_marks(code, error);
-    if flags & octets & words & marks {
-        let meaning = numbers::meaning_from(
-            extended,
-            first,
-            priority,
-            source,
-            group,
-            destination,
-            count,
-        );
-        let message = numbers::message_from(code, error, meaning);
-        let written = routing::write(message, payload, room);
-        numbers::of_written(written)
-    } else {
-        14
-    }
+    let Some(message) = numbers::message_given(
+        code,
+        error,
+        extended,
+        first,
+        priority,
+        source,
+        group,
+        destination,
+        count,
+    ) else {
+        return Refusal::OutOfRange.number() as u64;
+    };
+    let written = routing::write(message, payload, room);
+    numbers::of_written(written)
 }
 
 pub fn klumdray_tunnelling_request_read(octets: &[u8]) -> u64
@@ -186,27 +172,21 @@ pub fn klumdray_tunnelling_request_write(
 ) -> u64
     ensures { WroteRequest (are_numbers extended first priority source group destination count && are_marks code error && are_octets channel counter) channel counter (message_from code error (meaning_from extended first priority source group destination count)) payload.now room.old result room.new }
 {
-    let flags = numbers::are_flags(extended, first, group);
-    let octets = numbers::are_octets(priority, count);
-    let words = numbers::are_words(source, destination);
-    let marks = numbers::are_marks(code, error);
-    let connected = numbers::are_octets(channel, counter);
-    if flags & octets & words & marks & connected {
-        let meaning = numbers::meaning_from(
-            extended,
-            first,
-            priority,
-            source,
-            group,
-            destination,
-            count,
-        );
-        let message = numbers::message_from(code, error, meaning);
-        let written = numbers::write_request(channel, counter, message, payload, room);
-        numbers::of_written(written)
-    } else {
-        14
-    }
+    let Some(message) = numbers::message_given(
+        code,
+        error,
+        extended,
+        first,
+        priority,
+        source,
+        group,
+        destination,
+        count,
+    ) else {
+        return Refusal::OutOfRange.number() as u64;
+    };
+    let written = numbers::write_request(channel, counter, message, payload, room);
+    numbers::of_written(written)
 }
 
 pub fn klumdray_tunnelling_ack_read(octets: &[u8]) -> u32
@@ -224,13 +204,12 @@ pub fn klumdray_tunnelling_ack_write(
 ) -> u64
     ensures { WroteAcknowledgement (are_connected channel counter status) (acknowledgement_from channel counter status) room.old result room.new }
 {
-    if numbers::are_connected(channel, counter, status) {
-        let acknowledgement = numbers::acknowledgement_from(channel, counter, status);
-        let written = tunnelling::write_acknowledgement(acknowledgement, room);
-        numbers::of_written(written)
-    } else {
-        14
+    if !numbers::are_connected(channel, counter, status) {
+        return Refusal::OutOfRange.number() as u64;
     }
+    let acknowledgement = numbers::acknowledgement_from(channel, counter, status);
+    let written = tunnelling::write_acknowledgement(acknowledgement, room);
+    numbers::of_written(written)
 }
 
 pub fn klumdray_tunnelling_receive(channels: &mut [u8], octets: &[u8], room: &mut [u8]) -> u64
@@ -265,27 +244,24 @@ pub fn klumdray_tunnelling_send(
 ) -> u64
     ensures { SentThrough (are_numbers extended first priority source group destination count && are_marks code error) channels.now channel (message_from code error (meaning_from extended first priority source group destination count)) payload.now room.old result room.new }
 {
-    let right = counters::are_channels(channels);
-    let flags = numbers::are_flags(extended, first, group);
-    let octets = numbers::are_octets(priority, count);
-    let words = numbers::are_words(source, destination);
-    let marks = numbers::are_marks(code, error);
-    if right & (flags & octets & words & marks) {
-        let meaning = numbers::meaning_from(
-            extended,
-            first,
-            priority,
-            source,
-            group,
-            destination,
-            count,
-        );
-        let message = numbers::message_from(code, error, meaning);
-        let written = counters::send(channels, channel, message, payload, room);
-        numbers::of_written(written)
-    } else {
-        14
+    if !counters::are_channels(channels) {
+        return Refusal::OutOfRange.number() as u64;
     }
+    let Some(message) = numbers::message_given(
+        code,
+        error,
+        extended,
+        first,
+        priority,
+        source,
+        group,
+        destination,
+        count,
+    ) else {
+        return Refusal::OutOfRange.number() as u64;
+    };
+    let written = counters::send(channels, channel, message, payload, room);
+    numbers::of_written(written)
 }
 
 pub fn klumdray_tunnelling_confirm(channels: &mut [u8], octets: &[u8]) -> u32

@@ -1,11 +1,11 @@
 // Answers as the numbers that cross the surface, and a caller's numbers as a meaning.
-ghost use Rattle.std.specs.Prelude.{◌≡◌, ◌%◌, ◌<◌, length};
+ghost use Rattle.std.specs.Prelude.{◌≡◌, ◌%◌, ◌<◌, ◌&&◌, true, length};
 ghost use Rattle.cemi.specs.Writing.{message_in_range};
 ghost use Rattle.cemi.specs.declared.Codes.TheVariants.{All};
 ghost use Rattle.frame.specs.Writing.{Wrote};
 ghost use Rattle.tunnelling.specs.Layout.{request_octets};
-ghost use Rattle.klumdray.specs.Numbers.{flags_of, meaning_number, tp1_number, code_number, message_number, cemi_number, are_flags, are_octets, are_words, are_marks, are_connected, meaning_from, message_from, acknowledgement_from, message_answer, acknowledged_number, written_number};
-ghost use Rattle.klumdray.specs.Stages.{Sized};
+ghost use Rattle.klumdray.specs.Numbers.{are_numbers, flags_of, meaning_number, tp1_number, code_number, message_number, cemi_number, are_flags, are_octets, are_words, are_marks, are_connected, meaning_from, message_from, acknowledgement_from, message_answer, acknowledged_number, written_number};
+ghost use Rattle.klumdray.specs.Stages.{Sized, given};
 
 use cemi::Message;
 use frame::{Meaning, Refusal};
@@ -141,7 +141,8 @@ pub(crate) fn are_connected(channel: u32, counter: u32, status: u32) -> bool
     (channel < 256) & (counter < 256) & (status < 256)
 }
 
-pub(crate) fn meaning_from(
+// What a caller's numbers of a frame give, if each is in its range. The casts lose nothing: the tests stand before them.
+pub(crate) fn meaning_given(
     extended: u32,
     first: u32,
     priority: u32,
@@ -149,27 +150,57 @@ pub(crate) fn meaning_from(
     group: u32,
     destination: u32,
     count: u32,
-) -> Meaning
-    ensures { result ≡ meaning_from extended first (priority % 256) (source % 65536) group (destination % 65536) (count % 256) }
+) -> Option<Meaning>
+    ensures { result ≡ given (are_numbers extended first priority source group destination count) (meaning_from extended first priority source group destination count) }
 {
-    Meaning {
-        extended: extended == 1,
-        first: first == 1,
-        priority: octet_of(priority),
-        source: word_of(source),
-        group: group == 1,
-        destination: word_of(destination),
-        count: octet_of(count),
+    let flags = are_flags(extended, first, group);
+    let octets = are_octets(priority, count);
+    let words = are_words(source, destination);
+    if flags & octets & words {
+        Some(Meaning {
+            extended: extended == 1,
+            first: first == 1,
+            priority: priority as u8,
+            source: source as u16,
+            group: group == 1,
+            destination: destination as u16,
+            count: count as u8,
+        })
+    } else {
+        None
     }
 }
 
-pub(crate) fn message_from(code: u32, error: u32, meaning: Meaning) -> Message
-    ensures { result ≡ message_from (code % 256) error meaning }
+fn message_from(code: u32, error: u32, meaning: Meaning) -> Message
+    requires { are_marks code error ≡ true }
+    ensures { result ≡ message_from code error meaning }
 {
     Message {
-        code: octet_of(code),
+        code: code as u8,
         error: error == 1,
         meaning,
+    }
+}
+
+// The same with a message's marks.
+pub(crate) fn message_given(
+    code: u32,
+    error: u32,
+    extended: u32,
+    first: u32,
+    priority: u32,
+    source: u32,
+    group: u32,
+    destination: u32,
+    count: u32,
+) -> Option<Message>
+    ensures { result ≡ given (are_numbers extended first priority source group destination count && are_marks code error) (message_from code error (meaning_from extended first priority source group destination count)) }
+{
+    let meaning = meaning_given(extended, first, priority, source, group, destination, count)?;
+    if are_marks(code, error) {
+        Some(message_from(code, error, meaning))
+    } else {
+        None
     }
 }
 
@@ -181,20 +212,24 @@ pub(crate) fn write_request(
     payload: &[u8],
     room: &mut [u8],
 ) -> Result<usize, Refusal>
-    ensures { Wrote (message_in_range All message (length payload.now)) (request_octets (channel % 256) (counter % 256) message payload.now) room.old result room.new }
+    ensures { Wrote (are_octets channel counter && message_in_range All message (length payload.now)) (request_octets channel counter message payload.now) room.old result room.new }
 {
-    let number = octet_of(channel);
-    let counted = octet_of(counter);
+    if !are_octets(channel, counter) {
+        return Err(Refusal::OutOfRange);
+    }
+    let number = channel as u8;
+    let counted = counter as u8;
     tunnelling::write_request(number, counted, message, payload, room)
 }
 
 pub(crate) fn acknowledgement_from(channel: u32, counter: u32, status: u32) -> Acknowledgement
-    ensures { result ≡ acknowledgement_from (channel % 256) (counter % 256) (status % 256) }
+    requires { are_connected channel counter status ≡ true }
+    ensures { result ≡ acknowledgement_from channel counter status }
 {
     Acknowledgement {
-        channel: octet_of(channel),
-        counter: octet_of(counter),
-        status: octet_of(status),
+        channel: channel as u8,
+        counter: counter as u8,
+        status: status as u8,
     }
 }
 

@@ -1,5 +1,6 @@
--- The code's remainder, as `octet_of` hands it out.
+-- The test that is required says that the code fits an octet.
+use Rattle.klumdray.proofs.Surface.{code-fits}
 use Rattle.klumdray.proofs.numbers.message_from.Goals as goal
 
-pub returns : goal.returns
-returns c = rw c.octet_of.ensures
+pub overflow_cast-result : goal.overflow_cast-result
+overflow_cast-result c = record { fits = code-fits _ _ c.requires }
