@@ -1,53 +1,42 @@
 // A list: for each item two octets of length, then so many octets. A list that is cut short ends
 // where its octets do, and an item that is missing is empty.
-ghost use Rattle.std.specs.Prelude.{◌≤◌, ◌<◌, length};
+ghost use Rattle.std.specs.Prelude.{length};
+ghost use Rattle.std.specs.Iterator.{at_most};
 
-// The index behind the first item.
-pub(crate) fn end(list: &[u8]) -> usize
-    ensures { (result ≤ length list.now) × (0 < length list.now → 0 < result) }
-{
-    let behind = octets::word_at(list, 0) as usize + 2;
-    if behind < list.len() {
-        behind
-    } else {
-        list.len()
+// What is left of a list. It gives its items one after the other.
+#[derive(Clone, Copy)]
+pub(crate) struct Items<'a> {
+    left: &'a [u8],
+}
+
+impl<'a> Items<'a> {
+    pub(crate) fn of(list: &'a [u8]) -> Self {
+        Items { left: list }
+    }
+
+    pub(crate) fn item(&mut self) -> &'a [u8] {
+        self.next().unwrap_or_default()
     }
 }
 
-pub(crate) fn first(list: &[u8]) -> &[u8] {
-    let behind = end(list);
-    if behind < 2 {
-        return &list[..0];
-    }
-    &list[2..behind]
-}
+impl<'a> Iterator for Items<'a> {
+    type Item = &'a [u8];
 
-pub(crate) fn rest(list: &[u8]) -> &[u8] {
-    let behind = end(list);
-    &list[behind..]
-}
+    ghost remaining = { λ items. at_most (length items.left.now) };
 
-// What stands from an index on; nothing past the end.
-pub(crate) fn from(list: &[u8], at: usize) -> &[u8] {
-    if at < list.len() {
-        &list[at..]
-    } else {
-        &list[..0]
+    fn next(&mut self) -> Option<&'a [u8]> {
+        if self.left.is_empty() {
+            return None;
+        }
+        let size = usize::from(octets::word_at(self.left, 0));
+        let behind = self.left.get(2..).unwrap_or_default();
+        let (item, left) = behind.split_at(size.min(behind.len()));
+        self.left = left;
+        Some(item)
     }
 }
 
 // The first octets, or all where there are fewer.
 pub(crate) fn front(octets: &[u8], size: usize) -> &[u8] {
-    if size < octets.len() {
-        &octets[..size]
-    } else {
-        octets
-    }
-}
-
-pub(crate) fn behind_first(octets: &[u8]) -> &[u8] {
-    if octets.len() < 1 {
-        return octets;
-    }
-    &octets[1..]
+    &octets[..size.min(octets.len())]
 }

@@ -8,6 +8,7 @@
 
 ghost use Rattle.std.specs.Prelude.{◌≤◌, length, IfOk};
 
+use lists::Items;
 use std::io;
 use std::io::Read;
 
@@ -20,39 +21,37 @@ mod text;
 mod tunnels;
 
 fn run_row(out: &impl Print, row: &[u8]) -> io::Result<()> {
-    out.write_all(lists::first(row))?;
+    let mut items = Items::of(row);
+    out.write_all(items.item())?;
     out.write_all(b" ")?;
-    let from_format = lists::rest(row);
-    let letter = octets::octet(lists::first(from_format), 0);
-    let from_octets = lists::rest(from_format);
-    let given = lists::first(from_octets);
+    let letter = octets::octet(items.item(), 0);
+    let given = items.item();
+    // The letter is read here alone: an enum of the formats would have the same ten lines twice.
     match letter {
-        b't' => reads::run_tp1(out, given)?,
-        b'c' => reads::run_cemi(out, given)?,
-        b'r' => reads::run_routing(out, given)?,
-        b'q' => reads::run_request(out, given)?,
-        b'a' => reads::run_acknowledgement(out, given)?,
+        b't' => text::put_answer(out, reads::read_tp1(given))?,
+        b'c' => text::put_answer(out, reads::read_cemi(given))?,
+        b'r' => text::put_answer(out, reads::read_routing(given))?,
+        b'q' => text::put_answer(out, reads::read_request(given))?,
+        b'a' => text::put_answer(out, reads::read_acknowledgement(given))?,
         b'f' => floats::run_float(out, given)?,
         b'h' => floats::run_hundredths(out, given)?,
-        b's' => steps::run_steps(out, given, lists::rest(from_octets))?,
-        b'u' => tunnels::run_tunnel(out, given, lists::rest(from_octets))?,
-        b'i' => stations::run_station(out, given, lists::rest(from_octets))?,
+        b's' => steps::run_steps(out, given, items.item(), items)?,
+        b'u' => tunnels::run_tunnel(out, given, items)?,
+        b'i' => stations::run_station(out, given, items)?,
         _ => {}
     }
     out.write_all(b"\n")
 }
 
 fn run_rows(out: &impl Print, rows: &[u8]) -> io::Result<()> {
-    let mut at = 0;
-    while at < rows.len() {
-        let left = &rows[at..];
-        run_row(out, lists::first(left))?;
-        at += lists::end(left);
+    for row in Items::of(rows) {
+        run_row(out, row)?;
     }
     Ok(())
 }
 
 // Reads until the room is full or the input ends, and says how many octets the room then begins with.
+// std has no call for it without heap: `read_exact` fails where the input ends, `read_to_end` fills a Vec.
 fn read_full(input: &mut impl Read, room: &mut [u8]) -> io::Result<usize>
     ensures { IfOk result (λ size. size ≤ length room.new) }
 {

@@ -1,85 +1,76 @@
 // The readers, each with the payload that it hands out.
-use crate::text;
+use crate::text::{FrameText, MessageText};
 use cemi::{Codes, Message};
-use std::io;
 use frame::Refusal;
+use std::fmt;
+use tunnelling::{Acknowledgement, Request};
 
-pub(crate) fn run_tp1(out: &impl Print, given: &[u8]) -> io::Result<()> {
-    let answer = tp1::read(given);
-    match answer {
-        Ok(meaning) => text::put_frame(out, meaning, tp1::payload(answer, given)),
-        Err(refusal) => text::put_refused(out, refusal.number()),
+pub(crate) fn read_tp1(given: &[u8]) -> Result<FrameText<'_>, Refusal> {
+    let meaning = tp1::read(given)?;
+    let payload = tp1::payload(Ok(meaning), given);
+    Ok(FrameText { meaning, payload })
+}
+
+// A message that was read from these octets.
+pub(crate) fn message_text(message: Message, octets: &[u8]) -> MessageText<'_> {
+    let payload = cemi::payload(Ok(message), octets);
+    MessageText { message, payload }
+}
+
+pub(crate) fn read_cemi(given: &[u8]) -> Result<MessageText<'_>, Refusal> {
+    let message = cemi::read(Codes::All, given)?;
+    Ok(message_text(message, given))
+}
+
+pub(crate) fn read_routing(given: &[u8]) -> Result<MessageText<'_>, Refusal> {
+    let message = routing::read(given)?;
+    let payload = routing::payload(Ok(message), given);
+    Ok(MessageText { message, payload })
+}
+
+#[derive(Clone, Copy)]
+pub(crate) struct RequestText<'a> {
+    channel: u8,
+    counter: u8,
+    message: MessageText<'a>,
+}
+
+impl fmt::Display for RequestText<'_> {
+    fn fmt<W: fmt::Write>(&self, f: &mut fmt::Formatter<W>) -> fmt::Result {
+        let RequestText {
+            channel,
+            counter,
+            message,
+        } = *self;
+        write!(f, "channel {channel} counter {counter} {message}")
     }
 }
 
-pub(crate) fn put_message(out: &impl Print, message: Message, payload: &[u8]) -> io::Result<()> {
-    let code = message.code;
-    match code {
-        0x11 => out.write_all(b"request ")?,
-        0x2E => text::put_which(
-            out,
-            message.error,
-            b"confirmation error 1 ",
-            b"confirmation error 0 ",
-        )?,
-        _ => out.write_all(b"indication ")?,
-    }
-    let meaning = message.meaning;
-    text::put_frame(out, meaning, payload)
+pub(crate) fn read_request(given: &[u8]) -> Result<RequestText<'_>, Refusal> {
+    let request = tunnelling::read_request(given)?;
+    let octets = tunnelling::message(Ok(request), given);
+    Ok(RequestText {
+        channel: request.channel,
+        counter: request.counter,
+        message: message_text(request.message, octets),
+    })
 }
 
-fn put_answer(out: &impl Print, answer: Result<Message, Refusal>, payload: &[u8]) -> io::Result<()> {
-    match answer {
-        Ok(message) => put_message(out, message, payload),
-        Err(refusal) => text::put_refused(out, refusal.number()),
-    }
-}
+#[derive(Clone, Copy)]
+pub(crate) struct AcknowledgementText(Acknowledgement);
 
-pub(crate) fn run_cemi(out: &impl Print, given: &[u8]) -> io::Result<()> {
-    let answer = cemi::read(Codes::All, given);
-    put_answer(out, answer, cemi::payload(answer, given))
-}
-
-pub(crate) fn run_routing(out: &impl Print, given: &[u8]) -> io::Result<()> {
-    let answer = routing::read(given);
-    put_answer(out, answer, routing::payload(answer, given))
-}
-
-// The payload of a message that was read from these octets.
-pub(crate) fn payload_of(message: Message, octets: &[u8]) -> &[u8] {
-    cemi::payload(Ok(message), octets)
-}
-
-fn put_head(out: &impl Print, channel: u8, counter: u8) -> io::Result<()> {
-    text::put_number(out, b"channel ", channel)?;
-    text::put_number(out, b" counter ", counter)
-}
-
-pub(crate) fn run_request(out: &impl Print, given: &[u8]) -> io::Result<()> {
-    let answer = tunnelling::read_request(given);
-    match answer {
-        Ok(request) => {
-            put_head(out, request.channel, request.counter)?;
-            out.write_all(b" ")?;
-            let message = request.message;
-            put_message(
-                out,
-                message,
-                payload_of(message, tunnelling::message(answer, given)),
-            )
-        }
-        Err(refusal) => text::put_refused(out, refusal.number()),
+impl fmt::Display for AcknowledgementText {
+    fn fmt<W: fmt::Write>(&self, f: &mut fmt::Formatter<W>) -> fmt::Result {
+        let Acknowledgement {
+            channel,
+            counter,
+            status,
+        } = self.0;
+        write!(f, "channel {channel} counter {counter} status {status:02X}")
     }
 }
 
-pub(crate) fn run_acknowledgement(out: &impl Print, given: &[u8]) -> io::Result<()> {
-    let answer = tunnelling::read_acknowledgement(given);
-    match answer {
-        Ok(acknowledgement) => {
-            put_head(out, acknowledgement.channel, acknowledgement.counter)?;
-            out.write_all(b" status")?;
-            text::put_octets(out, &[acknowledgement.status])
-        }
-        Err(refusal) => text::put_refused(out, refusal.number()),
-    }
+pub(crate) fn read_acknowledgement(given: &[u8]) -> Result<AcknowledgementText, Refusal> {
+    let acknowledgement = tunnelling::read_acknowledgement(given)?;
+    Ok(AcknowledgementText(acknowledgement))
 }

@@ -1,109 +1,108 @@
 // The coupler's step: one coupler, and one frame after the other.
-use crate::{lists, text};
-use coupler::{Acknowledgement, Memory, Outcome};
-use std::io;
+use crate::lists::{self, Items};
+use crate::text::OctetsText;
+use coupler::{Acknowledgement, Memory, Outcome, Setting};
+use std::{array, fmt, io};
 
-fn codes_of(setting: &[u8]) -> [[u8; 4]; 2] {
-    let down = [
-        octets::octet(setting, 1),
-        octets::octet(setting, 2),
-        octets::octet(setting, 3),
-        octets::octet(setting, 4),
-    ];
-    let up = [
-        octets::octet(setting, 5),
-        octets::octet(setting, 6),
-        octets::octet(setting, 7),
-        octets::octet(setting, 8),
-    ];
-    [down, up]
+// A coupler as a row sets it up, and the frames that it remembers.
+#[derive(Drop)]
+struct Device<'a> {
+    setting: Setting,
+    codes: [[u8; 4]; 2],
+    table: &'a [u8],
+    memory: Memory,
+}
+
+impl<'a> Device<'a> {
+    // The coupler's line, four codes down, four codes up, the receiving side, and the main medium.
+    fn new(setting: &[u8], table: &'a [u8]) -> Self {
+        let down = array::from_fn(|class| octets::octet(setting, 1 + class));
+        let up = array::from_fn(|class| octets::octet(setting, 5 + class));
+        let line = octets::octet(setting, 0);
+        let side = octets::octet(setting, 9);
+        let medium = octets::octet(setting, 10);
+        Device {
+            setting: coupler::setting_of(line, side, medium),
+            codes: [down, up],
+            table,
+            memory: coupler::nothing_remembered(),
+        }
+    }
+
+    fn step(&mut self, frame: &[u8], room: &mut [u8]) -> Outcome {
+        coupler::step_in_place(
+            &mut self.memory,
+            self.setting,
+            self.codes,
+            self.table,
+            frame,
+            room,
+        )
+    }
 }
 
 // "bit g mod 8 of octet g div 8 in the 8,192-octet filter table"
 fn put_group(group: u16, table: &mut [u8; 8192]) {
-    let at = (group / 8) as usize;
-    let bit = (group % 8) as u8;
-    table[at] = table[at] | 1 << bit;
+    table[usize::from(group / 8)] |= 1 << (group % 8);
 }
 
 fn put_groups(groups: &[u8], table: &mut [u8; 8192]) {
-    let mut at = 0;
-    while at < groups.len() / 2 {
-        put_group(octets::word_at(groups, 2 * at), table);
-        at += 1;
+    for group in groups.chunks_exact(2) {
+        put_group(octets::word_at(group, 0), table);
     }
 }
 
-// A table that is missing has no octets.
-fn octets_of(table: &[u8; 8192], is_there: bool) -> &[u8] {
-    let whole: &[u8] = table;
-    if is_there { whole } else { &whole[..0] }
+// What a step gave, and the room with the octets that it forwards.
+#[derive(Clone, Copy)]
+struct OutcomeText<'a> {
+    outcome: Outcome,
+    room: &'a [u8],
 }
 
-// All that an outcome says, on a refusal too: "its number, none, not, 0".
-fn put_outcome(out: &impl Print, outcome: Outcome, room: &[u8]) -> io::Result<()> {
-    if 0 < outcome.number {
-        text::put_refused(out, outcome.number)?;
-        out.write_all(b" ")?;
-    }
-    let acknowledgement = outcome.acknowledgement;
-    match acknowledgement {
-        Acknowledgement::Acknowledged => out.write_all(b"acknowledged")?,
-        Acknowledgement::Silence => out.write_all(b"silent")?,
-    }
-    text::put_which(out, outcome.own, b" own sends", b" not-own sends")?;
-    if outcome.forwarded == 0 {
-        out.write_all(b" nothing")
-    } else {
-        text::put_octets(out, lists::front(room, outcome.forwarded))
+impl fmt::Display for OutcomeText<'_> {
+    // All that an outcome says, on a refusal too: "its number, none, not, 0".
+    fn fmt<W: fmt::Write>(&self, f: &mut fmt::Formatter<W>) -> fmt::Result {
+        let outcome = self.outcome;
+        if 0 < outcome.number {
+            write!(f, "refused {} ", outcome.number)?;
+        }
+        let acknowledgement = match outcome.acknowledgement {
+            Acknowledgement::Acknowledged => "acknowledged",
+            Acknowledgement::Silence => "silent",
+        };
+        let own = if outcome.own { "own" } else { "not-own" };
+        write!(f, "{acknowledgement} {own} sends")?;
+        if outcome.forwarded == 0 {
+            f.write_str(" nothing")
+        } else {
+            let octets = OctetsText(lists::front(self.room, outcome.forwarded));
+            write!(f, "{octets}")
+        }
     }
 }
 
-// One step, written if it is the row's last.
-fn run_frame(
+// What came of the last frame is written.
+pub(crate) fn run_steps(
     out: &impl Print,
-    memory: Memory,
-    given_setting: &[u8],
-    table: &[u8],
-    given: &[u8],
-    last: bool,
-) -> io::Result<Memory> {
-    let codes = codes_of(given_setting);
-    let line = octets::octet(given_setting, 0);
-    let side = octets::octet(given_setting, 9);
-    let medium = octets::octet(given_setting, 10);
-    let setting = coupler::setting_of(line, side, medium);
-    let mut room = [0u8; 272];
-    let stepped = coupler::step(memory, setting, codes, table, given, &mut room);
-    if last {
-        let outcome = stepped.outcome;
-        put_outcome(out, outcome, &room)?;
+    setting: &[u8],
+    groups: &[u8],
+    frames: Items<'_>,
+) -> io::Result<()> {
+    let mut filter = [0; 8192];
+    put_groups(groups, &mut filter);
+    // "if there is none, the table is empty (length 0)"
+    let size = if groups.is_empty() { 0 } else { 8192 };
+    let mut device = Device::new(setting, &filter[..size]);
+    let mut room = [0; 272];
+    let mut last = None;
+    for frame in frames {
+        last = Some(device.step(frame, &mut room));
     }
-    Ok(stepped.memory)
-}
-
-fn run_frames(out: &impl Print, setting: &[u8], table: &[u8], frames: &[u8]) -> io::Result<()> {
-    let mut memory = coupler::nothing_remembered();
-    let mut at = 0;
-    while at < frames.len() {
-        let left = &frames[at..];
-        let size = lists::end(left);
-        let last = size == left.len();
-        memory = run_frame(out, memory, setting, table, lists::first(left), last)?;
-        at += size;
+    match last {
+        Some(outcome) => out.print(OutcomeText {
+            outcome,
+            room: &room,
+        }),
+        None => Ok(()),
     }
-    Ok(())
-}
-
-pub(crate) fn run_steps(out: &impl Print, setting: &[u8], behind: &[u8]) -> io::Result<()> {
-    let groups = lists::first(behind);
-    let mut table = [0u8; 8192];
-    put_groups(groups, &mut table);
-    let is_there = 0 < groups.len();
-    run_frames(
-        out,
-        setting,
-        octets_of(&table, is_there),
-        lists::rest(behind),
-    )
 }

@@ -1,85 +1,81 @@
-// What is written, piece by piece, to standard output.
-use frame::Meaning;
-use std::io;
+// What is written to standard output: the texts that tests/telegrams/README.md gives.
+use cemi::Message;
+use frame::{Meaning, Refusal};
+use std::{fmt, io};
 
-fn digit(number: u8) -> u8 {
-    let low = number % 16;
-    if low < 10 {
-        b'0' + low
-    } else {
-        b'A' - 10 + low
+// Octets, each with a space before it.
+#[derive(Clone, Copy)]
+pub(crate) struct OctetsText<'a>(pub(crate) &'a [u8]);
+
+impl fmt::Display for OctetsText<'_> {
+    fn fmt<W: fmt::Write>(&self, f: &mut fmt::Formatter<W>) -> fmt::Result {
+        for octet in self.0 {
+            write!(f, " {octet:02X}")?;
+        }
+        Ok(())
     }
 }
 
-fn put_octet(out: &impl Print, octet: u8) -> io::Result<()> {
-    let text = [digit(octet / 16), digit(octet)];
-    out.write_all(&text)
+#[derive(Clone, Copy)]
+pub(crate) struct FrameText<'a> {
+    pub(crate) meaning: Meaning,
+    pub(crate) payload: &'a [u8],
 }
 
-pub(crate) fn put_word(out: &impl Print, number: u16) -> io::Result<()> {
-    put_octet(out, octets::high_octet(number))?;
-    put_octet(out, octets::low_octet(number))
-}
-
-fn put_spaced(out: &impl Print, octet: u8) -> io::Result<()> {
-    out.write_all(b" ")?;
-    put_octet(out, octet)
-}
-
-pub(crate) fn put_octets(out: &impl Print, list: &[u8]) -> io::Result<()> {
-    let mut at = 0;
-    while at < list.len() {
-        put_spaced(out, list[at])?;
-        at += 1;
-    }
-    Ok(())
-}
-
-pub(crate) fn put_number(out: &impl Print, word: &[u8], number: u8) -> io::Result<()> {
-    out.write_all(word)?;
-    out.print(number)
-}
-
-// How far a number is from zero; below it from -1 on, so that the smallest number has a size too.
-fn size_of(number: i64) -> u64 {
-    if number < 0 {
-        let below = (-1 - number) as u64;
-        below + 1
-    } else {
-        number as u64
+impl fmt::Display for FrameText<'_> {
+    fn fmt<W: fmt::Write>(&self, f: &mut fmt::Formatter<W>) -> fmt::Result {
+        let Meaning {
+            extended,
+            first,
+            priority,
+            source,
+            group,
+            destination,
+            count,
+        } = self.meaning;
+        let format = if extended { "extended" } else { "standard" };
+        let sending = if first { "first" } else { "repeated" };
+        let kind = if group { "group" } else { "individual" };
+        let payload = OctetsText(self.payload);
+        write!(f, "{format} {sending} priority {priority} ")?;
+        write!(f, "source {source:04X} {kind} {destination:04X} ")?;
+        write!(f, "count {count} payload{payload}")
     }
 }
 
-pub(crate) fn put_signed(out: &impl Print, word: &[u8], number: i64) -> io::Result<()> {
-    out.write_all(word)?;
-    if number < 0 {
-        out.write_all(b"-")?;
+#[derive(Clone, Copy)]
+pub(crate) struct MessageText<'a> {
+    pub(crate) message: Message,
+    pub(crate) payload: &'a [u8],
+}
+
+impl fmt::Display for MessageText<'_> {
+    fn fmt<W: fmt::Write>(&self, f: &mut fmt::Formatter<W>) -> fmt::Result {
+        let message = self.message;
+        match message.code {
+            0x11 => f.write_str("request ")?,
+            0x2E => write!(f, "confirmation error {} ", u8::from(message.error))?,
+            _ => f.write_str("indication ")?,
+        }
+        let frame = FrameText {
+            meaning: message.meaning,
+            payload: self.payload,
+        };
+        write!(f, "{frame}")
     }
-    out.print(size_of(number))
 }
 
-// One of two words.
-pub(crate) fn put_which(out: &impl Print, is: bool, word: &[u8], other: &[u8]) -> io::Result<()> {
-    if is {
-        out.write_all(word)
-    } else {
-        out.write_all(other)
+pub(crate) fn put_refused(out: &impl Print, refusal: Refusal) -> io::Result<()> {
+    print!(out; "refused {}", refusal.number())
+}
+
+// What was read, or the refusal.
+pub(crate) fn put_answer<T: fmt::Display + Drop>(
+    out: &impl Print,
+    answer: Result<T, Refusal>,
+) -> io::Result<()> {
+    match answer {
+        Ok(text) => out.print(text),
+        Err(refusal) => put_refused(out, refusal),
     }
-}
-
-pub(crate) fn put_refused(out: &impl Print, number: u8) -> io::Result<()> {
-    put_number(out, b"refused ", number)
-}
-
-pub(crate) fn put_frame(out: &impl Print, meaning: Meaning, payload: &[u8]) -> io::Result<()> {
-    put_which(out, meaning.extended, b"extended", b"standard")?;
-    put_which(out, meaning.first, b" first", b" repeated")?;
-    put_number(out, b" priority ", meaning.priority)?;
-    out.write_all(b" source ")?;
-    put_word(out, meaning.source)?;
-    put_which(out, meaning.group, b" group ", b" individual ")?;
-    put_word(out, meaning.destination)?;
-    put_number(out, b" count ", meaning.count)?;
-    out.write_all(b" payload")?;
-    put_octets(out, payload)
 }

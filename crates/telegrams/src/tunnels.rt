@@ -1,120 +1,84 @@
 // Tunnelling: one table of channels, and one call after the other.
-use crate::{lists, reads, text};
-use cemi::{Codes, Message};
+use crate::lists::{self, Items};
+use crate::reads;
+use crate::text::{self, OctetsText};
+use cemi::Codes;
 use channels::Table;
 use exchange::{Confirmed, Received};
-use std::io;
 use frame::Refusal;
+use std::{fmt, io};
 
-fn put_sent(out: &impl Print, octets: &[u8]) -> io::Result<()> {
-    out.write_all(b"sends")?;
-    text::put_octets(out, octets)
+// What goes out.
+#[derive(Clone, Copy)]
+struct SentText<'a>(&'a [u8]);
+
+impl fmt::Display for SentText<'_> {
+    fn fmt<W: fmt::Write>(&self, f: &mut fmt::Formatter<W>) -> fmt::Result {
+        write!(f, "sends{}", OctetsText(self.0))
+    }
 }
 
 // What came of a request, and the acknowledgement that the room has.
-fn put_received(out: &impl Print, answer: Result<Received, Refusal>, given: &[u8], room: &[u8]) -> io::Result<()> {
-    match answer {
+fn receive(out: &impl Print, table: &mut Table, given: &[u8]) -> io::Result<()> {
+    let mut room = [0; 10];
+    let taken = exchange::receive(*table, given, &mut room);
+    *table = taken.table;
+    let sent = SentText(&room);
+    match taken.answer {
         Ok(Received::Delivered(request)) => {
-            out.write_all(b"delivered ")?;
-            let message = request.message;
-            let payload = reads::payload_of(message, exchange::message(answer, given));
-            reads::put_message(out, message, payload)?;
-            out.write_all(b" ")?;
-            put_sent(out, room)
+            let octets = exchange::message(taken.answer, given);
+            let message = reads::message_text(request.message, octets);
+            print!(out; "delivered {message} {sent}")
         }
-        Ok(Received::Again) => {
-            out.write_all(b"again ")?;
-            put_sent(out, room)
-        }
-        Err(refusal) => text::put_refused(out, refusal.number()),
+        Ok(Received::Again) => print!(out; "again {sent}"),
+        Err(refusal) => text::put_refused(out, refusal),
     }
 }
 
-fn run_receive(out: &impl Print, table: Table, given: &[u8]) -> io::Result<Table> {
-    let mut room = [0u8; 10];
-    let taken = exchange::receive(table, given, &mut room);
-    let answer = taken.answer;
-    put_received(out, answer, given, &room)?;
-    Ok(taken.table)
+// The channel, and behind it the message that is to go out on it.
+fn send<'a>(table: Table, given: &[u8], room: &'a mut [u8]) -> Result<SentText<'a>, Refusal> {
+    let channel = octets::octet(given, 0);
+    let octets = given.get(1..).unwrap_or_default();
+    let message = cemi::read(Codes::All, octets)?;
+    let payload = cemi::payload(Ok(message), octets);
+    let size = exchange::send(table, channel, message, payload, room)?;
+    Ok(SentText(lists::front(room, size)))
 }
 
-fn send_message(
-    out: &impl Print,
-    table: Table,
-    channel: u8,
-    message: Message,
-    payload: &[u8],
-) -> io::Result<()> {
-    let mut room = [0u8; 273];
-    let written = exchange::send(table, channel, message, payload, &mut room);
-    match written {
-        Ok(size) => put_sent(out, lists::front(&room, size)),
-        Err(refusal) => text::put_refused(out, refusal.number()),
+fn confirm(out: &impl Print, table: &mut Table, given: &[u8]) -> io::Result<()> {
+    let settled = exchange::confirm(*table, given);
+    *table = settled.table;
+    match settled.answer {
+        Ok(Confirmed::Raised) => print!(out; "raised"),
+        Ok(Confirmed::Kept) => print!(out; "kept"),
+        Err(refusal) => text::put_refused(out, refusal),
     }
 }
 
-// The channel, and behind it the message.
-fn run_send(out: &impl Print, table: Table, given: &[u8]) -> io::Result<Table> {
-    let octets = lists::behind_first(given);
-    let answer = cemi::read(Codes::All, octets);
-    match answer {
-        Ok(message) => {
-            let payload = cemi::payload(answer, octets);
-            send_message(out, table, octets::octet(given, 0), message, payload)?;
-        }
-        Err(refusal) => text::put_refused(out, refusal.number())?,
-    }
-    Ok(table)
-}
-
-fn run_confirm(out: &impl Print, table: Table, given: &[u8]) -> io::Result<Table> {
-    let settled = exchange::confirm(table, given);
-    let answer = settled.answer;
-    match answer {
-        Ok(Confirmed::Raised) => out.write_all(b"raised")?,
-        Ok(Confirmed::Kept) => out.write_all(b"kept")?,
-        Err(refusal) => text::put_refused(out, refusal.number())?,
-    }
-    Ok(settled.table)
-}
-
-fn run_call(out: &impl Print, table: Table, call: &[u8]) -> io::Result<Table> {
-    let letter = octets::octet(call, 0);
-    let given = lists::behind_first(call);
-    match letter {
-        b'r' => run_receive(out, table, given),
-        b's' => run_send(out, table, given),
-        b'c' => run_confirm(out, table, given),
-        _ => Ok(table),
+// A call's letter, which is read here alone, and behind it what the call is given.
+fn run_call(out: &impl Print, table: &mut Table, call: &[u8]) -> io::Result<()> {
+    let Some((letter, given)) = call.split_first() else {
+        return Ok(());
+    };
+    match *letter {
+        b'r' => receive(out, table, given),
+        b's' => text::put_answer(out, send(*table, given, &mut [0; 273])),
+        b'c' => confirm(out, table, given),
+        _ => Ok(()),
     }
 }
 
-fn open_channels(numbers: &[u8]) -> Table {
+pub(crate) fn run_tunnel(out: &impl Print, numbers: &[u8], calls: Items<'_>) -> io::Result<()> {
     let mut table = channels::all_closed();
-    let mut at = 0;
-    while at < numbers.len() {
-        table = channels::opened(table, numbers[at]);
-        at += 1;
+    for number in numbers {
+        table = channels::opened(table, *number);
     }
-    table
-}
-
-// What stands between two calls, as in the row.
-fn put_separator(out: &impl Print, at: usize) -> io::Result<()> {
-    if 0 < at {
-        out.write_all(b" > ")?;
-    }
-    Ok(())
-}
-
-pub(crate) fn run_tunnel(out: &impl Print, numbers: &[u8], calls: &[u8]) -> io::Result<()> {
-    let mut table = open_channels(numbers);
-    let mut at = 0;
-    while at < calls.len() {
-        put_separator(out, at)?;
-        let left = &calls[at..];
-        table = run_call(out, table, lists::first(left))?;
-        at += lists::end(left);
+    for (at, call) in calls.enumerate() {
+        // What stands between two calls, as in the row.
+        if 0 < at {
+            print!(out; " > ")?;
+        }
+        run_call(out, &mut table, call)?;
     }
     Ok(())
 }

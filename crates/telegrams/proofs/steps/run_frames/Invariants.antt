@@ -1,9 +1,0 @@
--- Each frame ends behind its beginning and within the list.
-use Rattle.std.proofs.Common.{length, ◌-◌, ◌≤◌}
-use Rattle.telegrams.proofs.steps.run_frames.Given as goal
-
-abbrev pub invariant-loop-at : goal.invariant-loop-at
-invariant-loop-at g l = l.at ≤ length l.frames
-
-abbrev pub decreases-loop-at : goal.decreases-loop-at
-decreases-loop-at g l = length l.frames - l.at

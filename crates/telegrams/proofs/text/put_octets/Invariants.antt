@@ -1,9 +1,0 @@
--- The index comes to the list's end.
-use Rattle.std.proofs.Common.{length, ◌-◌, ◌≤◌}
-use Rattle.telegrams.proofs.text.put_octets.Given as goal
-
-abbrev pub invariant-loop-at : goal.invariant-loop-at
-invariant-loop-at g l = l.at ≤ length l.list
-
-abbrev pub decreases-loop-at : goal.decreases-loop-at
-decreases-loop-at g l = length l.list - l.at
