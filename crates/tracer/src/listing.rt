@@ -27,10 +27,8 @@ pub(crate) fn list(lines: &[u8; 256], query: Query, room: &mut [u8]) -> usize
     ensures { (result ≡ count_below (is_reached lines.now) 256) × (room.new ≡ over (each_below (entry_by query lines.now) 256) room.old) }
 {
     let mut listed: usize = 0;
-    let mut line: usize = 0;
-    while line < 256 {
+    for line in 0..256usize {
         listed = list_line(lines, query, line as u8, listed, room);
-        line += 1;
     }
     listed
 }

@@ -55,15 +55,13 @@ pub(crate) fn spread(down: &[bool; 256], up: &[bool; 256], start: u8, count: u8)
 {
     let mut lines = [0u8; 256];
     let mut forwardings: usize = 0;
-    let mut line: usize = 0;
-    while line < 256 {
+    for line in 0..256usize {
         let reached = reach_of(down, up, &lines, start, count, line as u8);
         lines[line] = reached;
         // It came over a coupler: that one has forwarded it, once.
         if 1 < reached {
             forwardings += 1;
         }
-        line += 1;
     }
     Arrivals { lines, forwardings }
 }

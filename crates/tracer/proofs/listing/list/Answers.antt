@@ -6,19 +6,10 @@ use Rattle.tracer.proofs.listing.list.Goals as goal
 pub loop-line-init : goal.loop-line-init
 loop-line-init c = listing_none c.args.query c.args.lines.now c.args.room.now
 
-pub overflow_cast-line : goal.overflow_cast-line
-overflow_cast-line c = omega arith
-
 pub list_line-listed-requires : goal.list_line-listed-requires
 list_line-listed-requires c =
     let at-loop = c.loop-line in
     omega (arith, at-loop.invariant.few, at-loop.invariant.same, c.requires)
-
-pub overflow_add-line : goal.overflow_add-line
-overflow_add-line c = omega arith
-
-pub loop-line-smaller : goal.loop-line-smaller
-loop-line-smaller c = omega arith
 
 pub loop-line-preserved : goal.loop-line-preserved
 loop-line-preserved c =

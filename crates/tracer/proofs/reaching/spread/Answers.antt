@@ -11,25 +11,13 @@ use Rattle.tracer.proofs.reaching.spread.Goals.{else-reached-gt1, then-reached-g
 pub loop-line-init : goal.loop-line-init
 loop-line-init c = spreading-none (marked c.args.down.now c.args.up.now) c.args.start c.args.count _ refl
 
-pub overflow_cast-line : goal.overflow_cast-line
-overflow_cast-line c = omega arith
-
 pub reach_of-reached-requires : goal.reach_of-reached-requires
 reach_of-reached-requires c =
     let at-loop = c.loop-line in
     omega (arith, at-loop.invariant.few (main_side at-loop.line))
 
-pub bounds-lines-line : goal.bounds-lines-line
-bounds-lines-line c = omega arith
-
 pub overflow_add-forwardings : goal.overflow_add-forwardings
 overflow_add-forwardings c = omega (arith, made-few c.loop-line.invariant)
-
-pub overflow_add-line : goal.overflow_add-line
-overflow_add-line c = omega arith
-
-pub loop-line-smaller : goal.loop-line-smaller
-loop-line-smaller c = omega arith
 
 pub loop-line-preserved : goal.loop-line-preserved
 loop-line-preserved c =

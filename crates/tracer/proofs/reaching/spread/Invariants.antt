@@ -1,5 +1,4 @@
 -- The lines below the one at hand are known; its main side is one of them.
-use Prim.Native.Nat.{◌-◌}
 use Rattle.tracer.proofs.ReachingLaws.{Spreading}
 use Rattle.tracer.specs.Reaching.{marked}
 use Rattle.tracer.proofs.reaching.spread.Given as goal
@@ -7,6 +6,3 @@ use Rattle.tracer.proofs.reaching.spread.Given as goal
 abbrev pub invariant-loop-line : goal.invariant-loop-line
 invariant-loop-line l =
     Spreading (marked l.down l.up) l.start l.count l.lines l.forwardings l.line
-
-abbrev pub decreases-loop-line : goal.decreases-loop-line
-decreases-loop-line l = 256 - l.line
