@@ -28,7 +28,7 @@ use Rattle.tracer.specs.Lines.{main_sides, before_common, Crossing, up, down, up
 use Rattle.tracer.specs.Listing.{crossing_passes, all_pass, is_listed, entry, each_below, count_below, listed, lines_listed, forwardings}
 use Rattle.tracer.specs.declared.Query.{Query}
 use Rattle.tracer.specs.Reaching.{reach, marked, is_forwarded_to, Spread, is_reached, entry_by}
-use Rattle.tracer.specs.Tracing.{asking_tests, trace_tests, refused_trace, traced_by, list_by, DidTrace}
+use Rattle.tracer.specs.Tracing.{asking_tests, trace_tests, traced_by, list_by, DidTrace}
 use Rattle.tracer.specs.Reaching.{DidList}
 use Rattle.tracer.specs.declared.Traced.{Traced}
 
@@ -85,8 +85,8 @@ module _ (f g : Crossing → Bool) (downs : (n : ℕ) → n < 256 → f (down n)
     unfolding is_forwarded_to
     forwarded-same t ht = rw (listed_same t ht) refl
 
-by_three : {l l' f f' : ℕ} → l ≡ l' → f ≡ f' → ◌≡◌ {A = Traced} (record { number = 0; lines = l; forwardings = f }) (record { number = 0; lines = l'; forwardings = f' })
-by_three a b = rw (a, b) refl
+by_both : {l l' f f' : ℕ} → l ≡ l' → f ≡ f' → ◌≡◌ {A = Result Traced Refusal} (Ok (record { lines = l; forwardings = f })) (Ok (record { lines = l'; forwardings = f' }))
+by_both a b = rw (a, b) refl
 
 -- what the tracer's three steps ensure
 module _ (st : Stores) (site : List ℕ) (q : Query) {downward upward : List Bool} (small : q.start < 256)
@@ -124,10 +124,10 @@ module _ (st : Stores) (site : List ℕ) (q : Query) {downward upward : List Boo
         ∙ forwarded-lines asked q small
 
     pub listed_by : {lines : ℕ} {room room' : List ℕ} → (lines ≡ count_below (is_reached reached) 256) × (room' ≡ over (each_below (entry_by q reached) 256) room)
-        → DidList st site q room (record { number = 0; lines = lines; forwardings = made }) room'
+        → DidList st site q room (record { lines = lines; forwardings = made }) room'
     listed_by {lines} {room} l =
         record {
-          answered = by_three (l.0 ∙ counted) handed-on;
+          answered = by_both (l.0 ∙ counted) handed-on;
           left = l.1 ∙ ap (λ (o : List ℕ). over o room) entries;
         }
 
@@ -136,24 +136,24 @@ pub asked-room : (q : Query) {room : ℕ} → first_of (asking_tests q room) ≡
 asked-room q {room} e = ltb-false room 768 ((passed-iff (asking_tests q room)).0 e).1.0
 
 module _ (st : Stores) (site : List ℕ) (q : Query) (room : List ℕ) where
-  did-trace : {answer : Traced} {room' : List ℕ} (v : Result (Unit {0}) Refusal) → first_of (trace_tests st site q (length room)) ≡ v
+  did-trace : {answer : Result Traced Refusal} {room' : List ℕ} (v : Result (Unit {0}) Refusal) → first_of (trace_tests st site q (length room)) ≡ v
       → answer ≡ traced_by st site q v → room' ≡ over (list_by st site q v) room → DidTrace st site q room answer room'
   did-trace v e a l = record { answered = a ∙ ap (traced_by st site q) (sym e); left = l ∙ ap (λ (v : Result (Unit {0}) Refusal). over (list_by st site q v) room) (sym e) }
 
-  pub asked-refused : {r : Refusal} {answer : Traced} → first_of (asking_tests q (length room)) ≡ Err r → answer ≡ refused_trace r → DidTrace st site q room answer room
+  pub asked-refused : {r : Refusal} {answer : Result Traced Refusal} → first_of (asking_tests q (length room)) ≡ Err r → answer ≡ Err r → DidTrace st site q room answer room
   asked-refused {r} e a = did-trace (Err r) (first-refused (asking_tests q (length room)) (site_tests st site) r e) a refl
 
   module _ (e : first_of (asking_tests q (length room)) ≡ Ok tt) {survey : Surveyed} (s : DidSurvey st site survey) where
     surveyed : first_of (trace_tests st site q (length room)) ≡ survey.verdict
     surveyed = first-passed (asking_tests q (length room)) (site_tests st site) e ∙ sym s.judged
 
-    pub site-refused : {r : Refusal} {answer : Traced} → survey.verdict ≡ Err r → answer ≡ refused_trace r → DidTrace st site q room answer room
+    pub site-refused : {r : Refusal} {answer : Result Traced Refusal} → survey.verdict ≡ Err r → answer ≡ Err r → DidTrace st site q room answer room
     site-refused {r} f a = did-trace (Err r) (surveyed ∙ f) a refl
 
-    pub trace-listed : {answer : Traced} {room' : List ℕ} → survey.verdict ≡ Ok tt → DidList st site q room answer room' → DidTrace st site q room answer room'
+    pub trace-listed : {answer : Traced} {room' : List ℕ} → survey.verdict ≡ Ok tt → DidList st site q room answer room' → DidTrace st site q room (Ok answer) room'
     trace-listed f l = did-trace (Ok tt) (surveyed ∙ f) l.answered l.left
 
 -- two outcomes that the contract allows coincide
-pub traced-one : {st : Stores} {site : List ℕ} {q : Query} {room : List ℕ} {r₁ r₂ : Traced} {a₁ a₂ : List ℕ}
+pub traced-one : {st : Stores} {site : List ℕ} {q : Query} {room : List ℕ} {r₁ r₂ : Result Traced Refusal} {a₁ a₂ : List ℕ}
     → DidTrace st site q room r₁ a₁ → DidTrace st site q room r₂ a₂ → (r₁ ≡ r₂) × (a₁ ≡ a₂)
 traced-one x y = (x.answered ∙ sym y.answered, x.left ∙ sym y.left)

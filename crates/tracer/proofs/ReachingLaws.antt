@@ -15,7 +15,7 @@ use Rattle.octets.proofs.Truth.{by_cases, never, and-false}
 use Rattle.site.specs.WellFormed.{is_among}
 use Rattle.tracer.proofs.CountLaws.{lasts-none, lasts-less}
 use Rattle.tracer.proofs.Paths.{main-below, depth-main, on-zero, on-next, before_on, before-off, path-climb, path-down, distance-four}
-use Rattle.tracer.specs.Lines.{main_side, depth, main_sides, before_common, Crossing, up_over, path, distance}
+use Rattle.tracer.specs.Lines.{main_side, depth, main_sides, Crossing, path, distance}
 use Rattle.tracer.specs.Listing.{all_pass, lasts, is_listed, count_below}
 use Rattle.tracer.specs.Reaching.{handed, along, reach, marked, climbing, reach_by, is_forwarded_to, Spread}
 
@@ -74,17 +74,6 @@ module _ (f : Crossing → Bool) (s c : ℕ) where
   reach-reached t =
       rw (reach-listed t) (by_cases (is_listed f s c t) (λ e. rw e (lt-ltb 0 (suc (distance s t)) (omega arith))) (λ e. rw e refl))
 
--- up over couplers it is all one which marks of the way down are beside
-climb-marked : (d u : List Bool) (c l : ℕ) (ns : List ℕ) → along (marked u u) c l (up_over ns) ≡ along (marked d u) c l (up_over ns)
-unfolding marked
-climb-marked d u c l [] = refl
-climb-marked d u c l (n ∷ ns) = climb-marked d u c (handed c l (get_or u n false)) ns
-
-pub reach-climbed : (d u : List Bool) (lines : List ℕ) (s c t : ℕ) {r : ℕ} → is_among t (main_sides s) ≡ true → r ≡ along (marked u u) c 1 (climbing s t)
-    → r ≡ reach_by d u lines s c t
-unfolding reach_by
-reach-climbed d u lines s c t e q = rw e (q ∙ climb-marked d u c 1 (before_common (main_sides s) (t ∷ [])))
-
 -- main sides known, a line is known
 pub reach-by : (d u : List Bool) (lines : List ℕ) (s c t : ℕ) → ((n : ℕ) → n < t → get_or lines n 0 ≡ reach (marked d u) s c n)
     → reach_by d u lines s c t ≡ reach (marked d u) s c t
@@ -111,10 +100,10 @@ module _ {from top : ℕ} where
     pub climb-on : is_among top (main_sides main) ≡ true
     climb-on = rw em (on-next top from d e).1
 
-    pub climb-more : (u : List Bool) (c l : ℕ) {l' r : ℕ} → l' ≡ handed c l (get_or u from false) → r ≡ along (marked u u) c l' (climbing main top)
-        → r ≡ along (marked u u) c l (climbing from top)
+    pub climb-more : (d u : List Bool) (c l : ℕ) {l' r : ℕ} → l' ≡ handed c l (get_or u from false) → r ≡ along (marked d u) c l' (climbing main top)
+        → r ≡ along (marked d u) c l (climbing from top)
     unfolding marked
-    climb-more u c l el q =
+    climb-more _ u c l el q =
         rw (before-off from (top ∷ []) (on-next top from d e).0 (rw (ne_eqb top from (λ z. d (sym z))) refl)) (rw (el, em) at q)
 
 pub count_most : (f : ℕ → Bool) (n : ℕ) → count_below f n ≤ n

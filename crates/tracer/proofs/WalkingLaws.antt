@@ -1,5 +1,6 @@
 -- A telegram followed over a path: one coupler, and a path in two pieces.
-use Rattle.std.specs.Prelude.{Result, Ok, Err, Option, Some, None}
+use Rattle.std.specs.Prelude.{Result, Ok, Err, Option}
+use Rattle.std.specs.Result.{result_err}
 use Prim.Native.Nat.{ℕ}
 use mathlib.Core.Bool.{Bool, true, false}
 use mathlib.Core.List.{List, [], ◌∷◌, ◌++◌}
@@ -68,22 +69,20 @@ module _ (st : Stores) (site : List ℕ) (q : Query) where
       rw (before-off to (main_sides from) (not-zero to from (sym e ∙ f)) (sym e ∙ f), ← m)
       (r ∙ rw t (sym (walked-append w (down_over (before_common (main_sides main) (main_sides from))) (down to ∷ []))))
 
+told : (walk : Result ℕ Stop) → Ok (result_err walk) ≡ why_by walk
+told (Ok count) = refl
+told (Err stop) = refl
+
 -- the walk over the path, up and then down
 module _ (st : Stores) (site : List ℕ) (q : Query) (line : ℕ) {joined walk : Result ℕ Stop}
     (u : joined ≡ walked st site q (Ok q.count) (up_over (before_common (main_sides q.start) (main_sides line))))
     (d : walk ≡ walked st site q joined (down_over (before_common (main_sides line) (main_sides q.start)))) where
-  explained : why_of st site q line ≡ why_by walk
+  pub explained : Ok (result_err walk) ≡ why_of st site q line
   unfolding why_of path
   explained =
       let way = up_over (before_common (main_sides q.start) (main_sides line)) in
       let back = down_over (before_common (main_sides line) (main_sides q.start)) in
-      ap why_by (walked-append st site q (Ok q.count) way back ∙ ap (λ (w : Result ℕ Stop). walked st site q w back) (sym u) ∙ sym d)
-
-  pub explained-reached : (k : ℕ) → walk ≡ Ok k → Ok None ≡ why_of st site q line
-  explained-reached k e = sym (explained ∙ ap why_by e)
-
-  pub explained-stopped : (stop : Stop) → walk ≡ Err stop → (Ok (Some stop)) ≡ why_of st site q line
-  explained-stopped stop e = sym (explained ∙ ap why_by e)
+      told walk ∙ sym (ap why_by (walked-append st site q (Ok q.count) way back ∙ ap (λ (w : Result ℕ Stop). walked st site q w back) (sym u) ∙ sym d))
 
 -- the whole explanation: refused as the trace with room enough is, or the walk
 module _ (st : Stores) (site : List ℕ) (q : Query) (line : ℕ) where

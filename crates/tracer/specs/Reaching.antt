@@ -58,5 +58,5 @@ entry_by q lines line =
 
 -- nothing refused: the list at the front of the room, "octets behind the list stay"
 pub record DidList (st : Stores) (site : List ℕ) (q : Query) (room : List ℕ) (answer : Traced) (room' : List ℕ) : Type 0 where
-  pub answered : answer ≡ traced_by st site q (Ok tt)
+  pub answered : Ok answer ≡ traced_by st site q (Ok tt)
   pub left : room' ≡ over (list_by st site q (Ok tt)) room

@@ -12,7 +12,7 @@ ghost use Rattle.site.specs.Starts.{Noted};
 ghost use Rattle.site.specs.Stores.{stores};
 ghost use Rattle.tracer.specs.Lines.{main_side};
 ghost use Rattle.tracer.specs.Query.{query_of, hopped_in, on_arrival};
-ghost use Rattle.tracer.specs.Tracing.{asking_tests, refused_trace, DidTrace};
+ghost use Rattle.tracer.specs.Tracing.{asking_tests, DidTrace};
 ghost use Rattle.tracer.specs.Reaching.{DidList};
 ghost use Rattle.tracer.specs.Why.{why_of, answer_why};
 
@@ -31,7 +31,6 @@ pub struct Query {
 // "The result also carries the number of forwardings made on the site".
 #[derive(Clone, Copy)]
 pub struct Traced {
-    pub number: u8,
     pub lines: usize,
     pub forwardings: usize,
 }
@@ -69,24 +68,22 @@ pub fn main_side(line: u8) -> u8
     if line % 16 == 0 { 0 } else { line - line % 16 }
 }
 
-// The count with which a coupler hands the telegram on.
-fn hopped(query: Query, count: u8) -> u8
-    ensures { result ≡ hopped_in query count }
-{
-    passing::hopped_count(count)
-}
-
-// "count on arrival (7, or c minus d)"
-fn on_arrival(query: Query, crossed: u8) -> u8
-    ensures { result ≡ on_arrival query crossed }
-{
-    if passing::stays(query.count) {
-        return 7;
+impl Query {
+    // The count with which a coupler hands the telegram on.
+    fn hopped(self, count: u8) -> u8
+        ensures { result ≡ hopped_in self count }
+    {
+        passing::hopped_count(count)
     }
-    if crossed <= query.count {
-        query.count - crossed
-    } else {
-        0
+
+    // "count on arrival (7, or c minus d)"
+    fn on_arrival(self, crossed: u8) -> u8
+        ensures { result ≡ on_arrival self crossed }
+    {
+        if passing::stays(self.count) {
+            return 7;
+        }
+        self.count.saturating_sub(crossed)
     }
 }
 
@@ -105,16 +102,6 @@ fn judge(query: Query, room: usize) -> Result<(), Refusal>
     }
 }
 
-fn refused(refusal: Refusal) -> Traced
-    ensures { result ≡ refused_trace refusal }
-{
-    Traced {
-        number: refusal.number(),
-        lines: 0,
-        forwardings: 0,
-    }
-}
-
 // Of a well-formed site, with where each line's record starts.
 fn list<'a>(
     query: Query,
@@ -128,13 +115,9 @@ fn list<'a>(
     ensures { DidList (stores project.now own.now) site.now query room.old result room.new }
 {
     let passing = site::letting(site, starts, project, own, query.kind, query.destination);
-    let down = passing.down;
-    let up = passing.up;
-    let arrivals = reaching::spread(&down, &up, query.start, query.count);
-    let reached = arrivals.lines;
-    let lines = listing::list(&reached, query, room);
+    let arrivals = reaching::spread(&passing, query);
+    let lines = listing::list(&arrivals.lines, query, room);
     Traced {
-        number: 0,
         lines,
         forwardings: arrivals.forwardings,
     }
@@ -148,22 +131,13 @@ pub fn trace<'a>(
     project: &'a [u8],
     own: &'a [u8],
     room: &mut [u8],
-) -> Traced
+) -> Result<Traced, Refusal>
     ensures { DidTrace (stores project.now own.now) site.now query room.old result room.new }
 {
-    let judged = judge(query, room.len());
-    if let Err(refusal) = judged {
-        return refused(refusal);
-    }
+    judge(query, room.len())?;
     let survey = site::survey(site, project, own);
-    let verdict = survey.verdict;
-    match verdict {
-        Err(refusal) => refused(refusal),
-        Ok(()) => {
-            let starts = survey.starts;
-            list(query, site, &starts, project, own, room)
-        }
-    }
+    survey.verdict?;
+    Ok(list(query, site, &survey.starts, project, own, room))
 }
 
 fn explain<'a>(
@@ -180,26 +154,22 @@ fn explain<'a>(
     let sent = Ok(query.count);
     let joined = walking::walk_up(query, site, starts, project, own, sent, query.start, line);
     let walk = walking::walk_down(query, site, starts, project, own, joined, query.start, line);
-    match walk {
-        Ok(_) => Ok(None),
-        Err(stop) => Ok(Some(stop)),
-    }
+    Ok(walk.err())
 }
 
 // Whether the telegram comes to a line; if not, the first coupler on the path that does not hand it
 // on, in which direction, and why.
-pub fn why<'a>(query: Query, site: &[u8], project: &'a [u8], own: &'a [u8], line: u8) -> Result<Option<Stop>, Refusal>
+pub fn why<'a>(
+    query: Query,
+    site: &[u8],
+    project: &'a [u8],
+    own: &'a [u8],
+    line: u8,
+) -> Result<Option<Stop>, Refusal>
     ensures { result ≡ answer_why (stores project.now own.now) site.now query line }
 {
-    let judged = judge(query, 768);
-    if let Err(refusal) = judged {
-        return Err(refusal);
-    }
+    judge(query, 768)?;
     let survey = site::survey(site, project, own);
-    let verdict = survey.verdict;
-    if let Err(refusal) = verdict {
-        return Err(refusal);
-    }
-    let starts = survey.starts;
-    explain(query, site, &starts, project, own, line)
+    survey.verdict?;
+    explain(query, site, &survey.starts, project, own, line)
 }

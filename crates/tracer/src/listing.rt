@@ -17,7 +17,7 @@ fn list_line(lines: &[u8; 256], query: Query, line: u8, listed: usize, room: &mu
         return listed;
     }
     let crossed = reached - 1;
-    let entry = [line, crate::on_arrival(query, crossed), crossed];
+    let entry = [line, query.on_arrival(crossed), crossed];
     octets::lay(&entry, listed * 3, room);
     listed + 1
 }

@@ -4,7 +4,8 @@ ghost use Rattle.site.specs.WellFormed.{is_among};
 ghost use Rattle.tracer.specs.Lines.{main_side, main_sides, depth};
 ghost use Rattle.tracer.specs.Reaching.{handed, along, climbing, marked, reach_by, Spread};
 
-use crate::Arrivals;
+use crate::{Arrivals, Query};
+use site::BothWays;
 
 // One coupler hands the telegram on if it lets it pass and the count lasts.
 pub(crate) fn hand(count: u8, lines: u8, passes: bool) -> u8
@@ -17,46 +18,37 @@ pub(crate) fn hand(count: u8, lines: u8, passes: bool) -> u8
 }
 
 // Up from a line to one of its main sides.
-fn climb(up: &[bool; 256], count: u8, from: u8, top: u8, lines: u8) -> u8
+fn climb(passing: &BothWays, query: Query, from: u8, top: u8, lines: u8) -> u8
     requires { (is_among top (main_sides from) ≡ true) × (lines + depth from < 255) }
-    ensures { result ≡ along (marked up.now up.now) count lines (climbing from top) }
+    ensures { result ≡ along (marked passing.now.down passing.now.up) query.count lines (climbing from top) }
 {
     if from == top {
         return lines;
     }
-    let at = from as usize;
-    let lines = hand(count, lines, up[at]);
-    climb(up, count, crate::main_side(from), top, lines)
+    let lines = hand(query.count, lines, passing.up[from as usize]);
+    climb(passing, query, crate::main_side(from), top, lines)
 }
 
 // The lines put on before are known of every line below this one.
-fn reach_of(
-    down: &[bool; 256],
-    up: &[bool; 256],
-    lines: &[u8; 256],
-    start: u8,
-    count: u8,
-    line: u8,
-) -> u8
+fn reach_of(passing: &BothWays, query: Query, lines: &[u8; 256], line: u8) -> u8
     requires { get_or lines.now (main_side line) 0 < 255 }
-    ensures { result ≡ reach_by down.now up.now lines.now start count line }
+    ensures { result ≡ reach_by passing.now.down passing.now.up lines.now query.start query.count line }
 {
-    if crate::lines::is_above(line, start) {
-        return climb(up, count, start, line, 1);
+    if crate::lines::is_above(line, query.start) {
+        return climb(passing, query, query.start, line, 1);
     }
     let main = crate::main_side(line) as usize;
-    let at = line as usize;
-    hand(count, lines[main], down[at])
+    hand(query.count, lines[main], passing.down[line as usize])
 }
 
 // Every line in rising order, so that a line's main side comes before it.
-pub(crate) fn spread(down: &[bool; 256], up: &[bool; 256], start: u8, count: u8) -> Arrivals
-    ensures { Spread (marked down.now up.now) start count result.lines result.forwardings }
+pub(crate) fn spread(passing: &BothWays, query: Query) -> Arrivals
+    ensures { Spread (marked passing.now.down passing.now.up) query.start query.count result.lines result.forwardings }
 {
     let mut lines = [0u8; 256];
     let mut forwardings: usize = 0;
     for line in 0..256usize {
-        let reached = reach_of(down, up, &lines, start, count, line as u8);
+        let reached = reach_of(passing, query, &lines, line as u8);
         lines[line] = reached;
         // It came over a coupler: that one has forwarded it, once.
         if 1 < reached {

@@ -37,30 +37,26 @@ fn hand_on<'a>(
     requires { Noted site.now starts.now }
     ensures { result ≡ handed_on (stores project.now own.now) site.now query walk (crossing direction coupler) }
 {
-    match walk {
-        Err(stop) => Err(stop),
-        Ok(count) => {
-            let reason = site::why_not(
-                site,
-                starts,
-                project,
-                own,
-                coupler,
-                direction,
-                query.kind,
-                query.destination,
-                count,
-            );
-            if does_pass(reason) {
-                return Ok(crate::hopped(query, count));
-            }
-            Err(Stop {
-                coupler,
-                direction,
-                reason,
-            })
-        }
+    let count = walk?;
+    let reason = site::why_not(
+        site,
+        starts,
+        project,
+        own,
+        coupler,
+        direction,
+        query.kind,
+        query.destination,
+        count,
+    );
+    if does_pass(reason) {
+        return Ok(query.hopped(count));
     }
+    Err(Stop {
+        coupler,
+        direction,
+        reason,
+    })
 }
 
 // Up from a line to the first that the other's main sides have too.

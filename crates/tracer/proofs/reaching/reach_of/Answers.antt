@@ -2,17 +2,15 @@
 use mathlib.Core.Path.{sym, ◌∙◌}
 use native.Mathlib.Omega.{arith}
 use Rattle.tracer.proofs.Paths.{depth-two}
-use Rattle.tracer.proofs.ReachingLaws.{reach-climbed}
 use Rattle.tracer.specs.Reaching.{reach_by}
 use Rattle.tracer.proofs.reaching.reach_of.Goals as goal
 
 pub climb-requires : goal.climb-requires
-climb-requires c = (sym c.is_above.ensures ∙ c.if-is_above.true, omega (arith, depth-two c.args.start))
+climb-requires c = (sym c.is_above.ensures ∙ c.if-is_above.true, omega (arith, depth-two c.args.query.start))
 
 pub returns-then-is_above : goal.returns-then-is_above
-returns-then-is_above c =
-    let a = c.args in
-    reach-climbed a.down.now a.up.now a.lines.now a.start a.count a.line (sym c.is_above.ensures ∙ c.if-is_above.true) c.climb.ensures
+unfolding reach_by
+returns-then-is_above c = rw (sym c.is_above.ensures ∙ c.if-is_above.true) c.climb.ensures
 
 pub hand-requires : goal.hand-requires
 hand-requires c = rw c.main_side-main.ensures c.requires
