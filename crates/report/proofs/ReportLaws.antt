@@ -9,8 +9,8 @@ use native.Mathlib.Omega.{arith}
 use lib.ListN.{length, take, drop, replicate, length-append, length-drop}
 use lib.Seq.{take_at}
 use borrow.Author.Tests.{ltb-true, lt-ltb, le-ltb}
-use Rattle.frame.proofs.Apart.{err-ok}
-use Rattle.frame.proofs.Numbers.{number-listed}
+use Rattle.frame.proofs.Apart.{err-ok, ok-one, err-one}
+use Rattle.frame.specs.Refusals.{number}
 use Rattle.frame.specs.Order.{first_of, answer_by, ◌gives◌}
 use Rattle.frame.specs.declared.Refusal.TheVariants.{SmallRoom}
 use Rattle.octets.proofs.Room.{laid-front}
@@ -41,43 +41,44 @@ listed-fits list n room o l h k =
 
 -- what the tracer answered, said of what was read
 
-module _ (s : List ℕ) (t : Traced) where
-  pub refused-text : (v : Result (Unit {0}) Refusal) → t ≡ traced_by no_stores (site_in s) (query_in s) v → 0 < t.number → told_line (ascii "refused ") t.number ≡ answer_text s v
+module _ (s : List ℕ) where
+  refused-text : {r : Refusal} (v : Result (Unit {0}) Refusal) → Err r ≡ traced_by no_stores (site_in s) (query_in s) v → told_line (ascii "refused ") (number r) ≡ answer_text s v
   unfolding answer_text
-  refused-text (Ok _) e h = absurd (omega (arith, ap (λ (x : Traced). x.number) e))
-  refused-text (Err r) e h = ap (λ (x : Traced). told_line (ascii "refused ") x.number) e
+  refused-text (Ok _) e = err-ok e
+  refused-text (Err r') e = ap (λ (r : Refusal). told_line (ascii "refused ") (number r)) (err-one e)
 
-  pub record ListedText (v : Result (Unit {0}) Refusal) (list : List ℕ) : Type 0 where
+  pub record ListedText (t : Traced) (v : Result (Unit {0}) Refusal) (list : List ℕ) : Type 0 where
     pub within : t.lines * 3 ≤ length list
     pub told : list_text (take (t.lines * 3) list) ++ told_line (ascii "forwardings ") t.forwardings ≡ answer_text s v
 
-  pub listed-text : (room list : List ℕ) (v : Result (Unit {0}) Refusal) → t ≡ traced_by no_stores (site_in s) (query_in s) v → t.number ≤ 0
-      → list ≡ over (list_by no_stores (site_in s) (query_in s) v) room → length list ≡ length room → ListedText v list
+  listed-text : {t : Traced} (room list : List ℕ) (v : Result (Unit {0}) Refusal) → Ok t ≡ traced_by no_stores (site_in s) (query_in s) v
+      → list ≡ over (list_by no_stores (site_in s) (query_in s) v) room → length list ≡ length room → ListedText t v list
   unfolding answer_text
-  listed-text room list (Ok _) e h l k =
+  listed-text {t} room list (Ok _) o l k =
       let L = listed no_stores (site_in s) (query_in s) in
+      let e = ok-one o in
       let n : length L ≡ t.lines * 3 = trace-three-each no_stores (site_in s) (query_in s) ∙ ap (λ (x : Traced). x.lines * 3) (sym e) in
       let w : length list ≡ length L + (length room - length L) = ap length l ∙ rw (length-append, length-drop) in
       record {
         within = omega arith;
         told = rw (l, take_at L (drop (length L) room) (t.lines * 3) n) (ap (λ (x : Traced). list_text L ++ told_line (ascii "forwardings ") x.forwardings) e);
       }
-  listed-text room list (Err r) e h l k = absurd (omega (arith, (number-listed r).0, ap (λ (x : Traced). x.number) e))
+  listed-text room list (Err r) e l k = err-ok (sym e)
 
 -- the same of the call: the query and the site as they were read, and an array of 768 octets lent
 
-module _ (s : List ℕ) {list : List ℕ} {t : Traced} {q : Query} (e : q ≡ query_in s)
-    (x : DidTrace no_stores (take (length s - 5) (drop 5 s)) q (replicate 768 0) t list) where
-  did : DidTrace no_stores (site_in s) (query_in s) (replicate 768 0) t list
+module _ (s : List ℕ) {list : List ℕ} {answer : Result Traced Refusal} {q : Query} (e : q ≡ query_in s)
+    (x : DidTrace no_stores (take (length s - 5) (drop 5 s)) q (replicate 768 0) answer list) where
+  did : DidTrace no_stores (site_in s) (query_in s) (replicate 768 0) answer list
   did = rw (e, rest-is 5 s) at x
 
-  pub traced-refused : 0 < t.number → told_line (ascii "refused ") t.number ≡ answer_text s (first_of (query_tests s))
+  pub traced-refused : {r : Refusal} → answer ≡ Err r → told_line (ascii "refused ") (number r) ≡ answer_text s (first_of (query_tests s))
   unfolding query_tests
-  traced-refused h = refused-text s t _ did.answered h
+  traced-refused h = refused-text s _ (sym h ∙ did.answered)
 
-  pub traced-listed : t.number ≤ 0 → length list ≡ 768 → ListedText s t (first_of (query_tests s)) list
+  pub traced-listed : {t : Traced} → answer ≡ Ok t → length list ≡ 768 → ListedText s t (first_of (query_tests s)) list
   unfolding query_tests
-  traced-listed h l = listed-text s t (replicate 768 0) list _ did.answered h did.left l
+  traced-listed h l = listed-text s (replicate 768 0) list _ (sym h ∙ did.answered) did.left l
 
 -- the tests in their order
 

@@ -5,6 +5,7 @@ mod text;
 
 ghost use Rattle.std.specs.Prelude.{◌≤◌, ◌++◌, ◌≡◌, length};
 ghost use Rattle.frame.specs.Order.{first_of};
+ghost use Rattle.frame.specs.Refusals.{number};
 ghost use Rattle.report.specs.Ascii.{ascii};
 ghost use Rattle.report.specs.Text.{told_line, list_text};
 ghost use Rattle.report.specs.Stages.{Puts};
@@ -14,11 +15,11 @@ use frame::Refusal;
 use tracer::Query;
 
 // "On refusal it writes `refused N`."
-fn put_refused(refused: u8, room: &mut [u8]) -> usize
+fn put_refused(refusal: Refusal, room: &mut [u8]) -> usize
     requires { 8192 ≤ length room.old }
-    ensures { Puts (told_line (ascii "refused ") refused) 0 room.old result room.new }
+    ensures { Puts (told_line (ascii "refused ") (number refusal)) 0 room.old result room.new }
 {
-    text::put_told_line(b"refused ", refused as usize, 0, room)
+    text::put_told_line(b"refused ", refusal.number() as usize, 0, room)
 }
 
 fn put_listed(list: &[u8], forwardings: usize, room: &mut [u8]) -> usize
@@ -48,12 +49,10 @@ fn put_trace(input: &[u8], room: &mut [u8]) -> usize
     let query = query_in(input);
     let none = &input[..0];
     let mut list = [0u8; 768];
-    let traced = tracer::trace(query, &input[5..], none, none, &mut list);
-    if 0 < traced.number {
-        return put_refused(traced.number, room);
+    match tracer::trace(query, &input[5..], none, none, &mut list) {
+        Ok(traced) => put_listed(&list[..traced.lines * 3], traced.forwardings, room),
+        Err(refusal) => put_refused(refusal, room),
     }
-    let size = traced.lines * 3;
-    put_listed(&list[..size], traced.forwardings, room)
 }
 
 fn put_report(input: &[u8], room: &mut [u8]) -> usize
@@ -61,10 +60,10 @@ fn put_report(input: &[u8], room: &mut [u8]) -> usize
     ensures { Puts (report_of input.now) 0 room.old result room.new }
 {
     if input.len() < 5 {
-        return put_refused(1, room);
+        return put_refused(Refusal::TooFew, room);
     }
     if 3065 < input.len() {
-        return put_refused(5, room);
+        return put_refused(Refusal::LeftOver, room);
     }
     put_trace(input, room)
 }
