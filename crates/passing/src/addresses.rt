@@ -3,26 +3,29 @@ ghost use Rattle.std.specs.Prelude.{◌≡◌, ◌<◌};
 ghost use Rattle.passing.specs.Settings.{class_of};
 ghost use Rattle.passing.specs.Passing.{is_own, is_in_table, is_below, is_onward, is_ruled, ruled_out};
 
-use crate::Passage;
+use crate::{Address, Filter, Passage};
 
-pub(crate) fn class_of(kind: u8, destination: u16) -> usize
-    ensures { (result ≡ class_of kind destination) × (result < 4) }
+pub(crate) fn class_of(address: Address) -> usize
+    ensures { (result ≡ class_of address.kind address.destination) × (result < 4) }
 {
-    if kind == 1 {
-        if destination == 0 {
-            return 1;
+    if address.kind == 1 {
+        if address.destination == 0 {
+            1
+        } else if address.destination < 0x7000 {
+            2
+        } else {
+            3
         }
-        if destination < 0x7000 { 2 } else { 3 }
     } else {
         0
     }
 }
 
 // Whether a telegram to this address is for the coupler itself.
-pub fn is_own(line: u8, kind: u8, destination: u16) -> bool
-    ensures { result ≡ is_own line kind destination }
+pub fn is_own(line: u8, address: Address) -> bool
+    ensures { result ≡ is_own line address.kind address.destination }
 {
-    (kind == 0) & (destination == line as u16 * 256)
+    (address.kind == 0) & (address.destination == u16::from(line) * 256)
 }
 
 fn is_in_table(table: &[u8], address: u16) -> bool
@@ -50,20 +53,19 @@ fn is_onward(line: u8, direction: u8, destination: u16) -> bool
     if direction == 0 { below } else { !below }
 }
 
-pub(crate) fn is_ruled(
-    line: u8,
-    table: &[u8],
+pub(crate) fn is_ruled<'a>(
+    filter: Filter<'a>,
     direction: u8,
     class: usize,
     destination: u16,
 ) -> bool
-    ensures { result ≡ is_ruled line table.now direction class destination }
+    ensures { result ≡ is_ruled filter.entry.line filter.entry.table.now direction class destination }
 {
     if class == 0 {
-        return is_onward(line, direction, destination);
+        return is_onward(filter.line, direction, destination);
     }
     let groups = (class == 2) | (class == 3);
-    groups & is_in_table(table, destination)
+    groups & is_in_table(filter.table, destination)
 }
 
 // Which of the reasons of code 1 it is.

@@ -13,7 +13,7 @@ pub use addresses::is_own;
 pub use hops::{hopped_count, stays};
 
 // What a coupler makes of a telegram: it lets it pass, or the first reason why not.
-#[derive(Clone, Copy)]
+#[derive(Clone, Copy, PartialEq, Eq, Debug)]
 pub enum Passage {
     Passes,
     NotFitted,
@@ -25,54 +25,50 @@ pub enum Passage {
     UsedUp,
 }
 
-// Whether a coupler lets a telegram to this address pass in this direction.
-pub fn may_pass(
-    line: u8,
-    codes: [[u8; 4]; 2],
-    table: &[u8],
-    direction: u8,
-    kind: u8,
-    destination: u16,
-) -> bool
-    ensures { result ≡ may_pass line codes table.now direction kind destination }
-{
-    let class = addresses::class_of(kind, destination);
-    let code = settings::code_in(codes, direction, class);
-    let own = addresses::is_own(line, kind, destination);
-    let ruled = addresses::is_ruled(line, table, direction, class, destination);
-    !own & ((code == 2) | ((code == 1) & ruled))
+// Where a telegram goes: its kind (0 individual, 1 group) and its number.
+#[derive(Clone, Copy, PartialEq, Eq, Debug)]
+pub struct Address {
+    pub kind: u8,
+    pub destination: u16,
 }
 
-// What a coupler makes of a telegram to this address that comes to it with this count.
-pub fn why_not(
-    line: u8,
-    codes: [[u8; 4]; 2],
-    table: &[u8],
-    direction: u8,
-    kind: u8,
-    destination: u16,
-    count: u8,
-) -> Passage
-    ensures { result ≡ passage_of line codes table.now direction kind destination count }
-{
-    let class = addresses::class_of(kind, destination);
-    let code = settings::code_in(codes, direction, class);
-    if addresses::is_own(line, kind, destination) {
-        return Passage::OwnAddress;
+// What a coupler goes by: own line, two rows of codes, filter table.
+#[derive(Clone, Copy)]
+pub struct Filter<'a> {
+    pub line: u8,
+    pub codes: [[u8; 4]; 2],
+    pub table: &'a [u8],
+}
+
+impl<'a> Filter<'a> {
+    // Whether a coupler lets a telegram to this address pass in this direction.
+    pub fn may_pass(self, direction: u8, address: Address) -> bool
+        ensures { result ≡ may_pass self.entry.line self.entry.codes self.entry.table.now direction address.kind address.destination }
+    {
+        let class = addresses::class_of(address);
+        let code = settings::code_in(self.codes, direction, class);
+        let own = addresses::is_own(self.line, address);
+        let ruled = addresses::is_ruled(self, direction, class, address.destination);
+        !own & ((code == 2) | ((code == 1) & ruled))
     }
-    let named = (code == 1) | (code == 2);
-    if named {
-        let ruled = addresses::is_ruled(line, table, direction, class, destination);
-        let ruled_out = (code == 1) & !ruled;
-        if ruled_out {
-            return addresses::ruled_out(direction, class);
-        }
-        if count == 0 {
+
+    // What a coupler makes of a telegram to this address that comes to it with this count.
+    pub fn why_not(self, direction: u8, address: Address, count: u8) -> Passage
+        ensures { result ≡ passage_of self.entry.line self.entry.codes self.entry.table.now direction address.kind address.destination count }
+    {
+        let class = addresses::class_of(address);
+        let code = settings::code_in(self.codes, direction, class);
+        let named = (code == 1) | (code == 2);
+        if addresses::is_own(self.line, address) {
+            Passage::OwnAddress
+        } else if !named {
+            Passage::Closed
+        } else if (code == 1) & !addresses::is_ruled(self, direction, class, address.destination) {
+            addresses::ruled_out(direction, class)
+        } else if count == 0 {
             Passage::UsedUp
         } else {
             Passage::Passes
         }
-    } else {
-        Passage::Closed
     }
 }

@@ -9,14 +9,16 @@ use lib.Dec.{eqb}
 use lib.ListN.{length, drop, drop_of_length-le}
 use Rattle.frame.proofs.Order.{passed-iff}
 use Rattle.octets.specs.Octets.{Octets}
+use Rattle.site.proofs.LettingLaws.{two-marks}
 use Rattle.site.proofs.RecordCount.{site-most}
 use Rattle.site.proofs.RecordLaws.{records-end, record-some, records-more, records-cut, by_equal}
 use Rattle.site.specs.Letting.{lets_pass, line_lets_pass, line_lets_pass_by, MarksBothWays, passage_by, passage_at}
 use Rattle.site.specs.Records.{record_size, first_record, records_of, line_of, coupler_in, coupler_of}
 use Rattle.site.specs.Starts.{record_from, no_start, start_in, start_of, DidSurvey, coupler_from, Noted}
-use Rattle.site.specs.Stores.{Stores}
+use Rattle.site.specs.Stores.{Stores, stores_in}
 use Rattle.site.specs.WellFormed.{site_tests}
-use Rattle.site.specs.declared.BothWays.{BothWays}
+use Rattle.site.specs.declared.stores.Stores.{Stores as LentStores}
+use Rattle.std.specs.Borrow.{Bor}
 use Rattle.site.specs.declared.Surveyed.{Surveyed}
 
 no_record : (site : List ℕ) (from : ℕ) → length site ≤ from → record_from site from ≡ []
@@ -57,11 +59,13 @@ module _ (site : List ℕ) (line : ℕ) where
   unfolding start_of coupler_of
   start-finds h = found-by (length site) 0 no_start (omega arith) ∙ ap (λ (x : List ℕ). coupler_in line x (records_of site)) (no_record site no_start h)
 
-pub survey-notes : (st : Stores) {site : List ℕ} {survey : Surveyed} → DidSurvey st site survey → Octets site → survey.verdict ≡ Ok tt → Noted site survey.starts
-survey-notes st {site} w o f =
-    let fine = sym w.judged ∙ f in
-    let most = (site-most st site o ((passed-iff (site_tests st site)).0 fine)).1 in
-    record { each = λ line h. ap (record_from site) (rw fine at (w.each line h)) ∙ start-finds site line (omega (arith, most)) }
+pub survey-notes : {given : LentStores} {octets : Bor (List ℕ)} {s : Surveyed} → DidSurvey given octets (Ok s) → Octets octets.now → Noted octets.now s.starts
+survey-notes {given} {octets} {s} w o =
+    let st = stores_in given in
+    let site = octets.now in
+    let found = w.found s refl in
+    let most = (site-most st site o ((passed-iff (site_tests st site)).0 (sym w.judged))).1 in
+    record { each = λ line h. ap (record_from site) (found.each line h) ∙ start-finds site line (omega (arith, most)) }
 
 module _ {site starts : List ℕ} (w : Noted site starts) (st : Stores) (kind destination : ℕ) where
   pub noted-passage : (direction line count : ℕ) → line < 256
@@ -74,8 +78,5 @@ module _ {site starts : List ℕ} (w : Noted site starts) (st : Stores) (kind de
   unfolding line_lets_pass line_lets_pass_by
   noted-lets direction line h = ap (lets_pass st kind destination direction) (w.each line h)
 
-  pub noted-letting : {marks : BothWays} → MarksBothWays (line_lets_pass_by st kind destination site starts) marks → MarksBothWays (line_lets_pass st kind destination (records_of site)) marks
-  noted-letting m = record {
-    downward = record { size = m.downward.size; each = λ line h. m.downward.each line h ∙ noted-lets 0 line h };
-    upward = record { size = m.upward.size; each = λ line h. m.upward.each line h ∙ noted-lets 1 line h };
-  }
+  pub noted-letting : {marks : List (List Bool)} → MarksBothWays (line_lets_pass_by st kind destination site starts) marks → MarksBothWays (line_lets_pass st kind destination (records_of site)) marks
+  noted-letting m = record { size = m.size; each = λ line h. m.each line h ∙ two-marks (noted-lets 0 line h) (noted-lets 1 line h) }

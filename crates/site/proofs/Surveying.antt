@@ -10,6 +10,7 @@ use lib.Dec.{eqb}
 use lib.ListN.{length, get_or, drop, set, length-set, replicate, get_or-replicate}
 use lib.Seq.{get_or-set_same, get_or-set_other, ext_get_or}
 use borrow.Author.Tests.{eq-eqb, ne_eqb}
+use Rattle.frame.proofs.Apart.{ok-err, err-ok, ok-one, err-one}
 use Rattle.frame.proofs.Order.{first-passed, first-refused, passed-iff}
 use Rattle.frame.specs.Order.{Test, first_of, ◌gives◌}
 use Rattle.frame.specs.declared.Refusal.TheVariants.{WrongRecord}
@@ -17,8 +18,10 @@ use Rattle.frame.specs.declared.Refusal.{Refusal}
 use Rattle.site.proofs.RecordCount.{Counted, counted_none, counted-more, counted-most}
 use Rattle.site.proofs.RecordLaws.{records-end, record-most, records-more, records-cut, by_equal}
 use Rattle.site.specs.Records.{records_of, is_marked, line_of}
-use Rattle.site.specs.Starts.{record_from, no_start, start_in, start_of, DidSurveyBy}
+use Rattle.site.specs.Starts.{record_from, no_start, start_in, start_of, verdict_of, Starts, DidSurveyBy}
 use Rattle.site.specs.Stores.{Stores}
+use Rattle.site.specs.declared.stores.Stores.{Stores as LentStores}
+use Rattle.std.specs.Borrow.{Bor}
 use Rattle.site.specs.WellFormed.{is_among, record_tests, records_tests}
 use Rattle.site.specs.declared.Surveyed.{Surveyed}
 
@@ -83,31 +86,30 @@ unfolding start_of apart_none
 surveying-none st site starts e = record { apart = apart_none starts e; noted = λ n h. rw (noted-none starts e n h) refl; left = refl }
 
 pub surveying-all : {st : Stores} {site starts : List ℕ} {from : ℕ} → Surveying st site starts from → length site ≤ from
-    → DidSurveyBy (records_tests st [] (records_of site)) (records_of site) (record { verdict = (Ok tt); starts = starts })
-surveying-all {st} {site} {starts} {from} w h =
+    → (first_of (records_tests st [] (records_of site)) ≡ Ok tt) × ((n : ℕ) → n < 256 → get_or starts n 0 ≡ start_of n (records_of site))
+surveying-all {site = site} {from = from} w h =
     let e = records-end site from h in
-    let fine : first_of (records_tests st [] (records_of site)) ≡ (Ok tt) = rw e at w.left in
-    record { judged = sym fine; size = w.apart.size; each = λ n hn. rw fine (sym (rw e at (w.noted n hn))) }
+    (rw e at w.left, λ n hn. sym (rw e at (w.noted n hn)))
 
-pub no-starts : (q : Refusal) (starts : List ℕ) → starts ≡ replicate 256 no_start → DidSurveyBy (true gives q ∷ []) [] (record { verdict = Err q; starts = starts })
-unfolding start_of
-no-starts q starts e = record { judged = refl; size = ap length e; each = noted-none starts e }
+module _ {given : LentStores} {octets : Bor (List ℕ)} {records : List (List ℕ)} where
+  -- a site that draws no refusal, with what was noted
+  pub surveyed-by : {tests : List Test} {s : Surveyed} → first_of tests ≡ Ok tt → Starts given octets records s → DidSurveyBy tests given octets records (Ok s)
+  surveyed-by f w = record { judged = sym f; found = λ t e. rw (← ok-one e) w }
 
--- where neither the stores nor the length is refused, the records decide
-pub records-decide : {ts us : List Test} {records : List (List ℕ)} {survey : Surveyed} → first_of us ≡ first_of ts → DidSurveyBy ts records survey → DidSurveyBy us records survey
-records-decide e w = record { judged = w.judged ∙ sym e; size = w.size; each = λ n h. rw e (w.each n h) }
+  -- a site that is refused, by whatever tests
+  pub refused-by : {q : Refusal} {answer : Result Surveyed Refusal} (tests : List Test) → first_of tests ≡ Err q → answer ≡ Err q → DidSurveyBy tests given octets records answer
+  refused-by tests f a = record { judged = ap verdict_of a ∙ sym f; found = λ s e. err-ok (sym a ∙ e) }
 
--- a site that is refused, by whatever tests
-pub refused-by : {q : Refusal} {survey : Surveyed} (tests : List Test) (records : List (List ℕ)) → first_of tests ≡ Err q → DidSurveyBy (true gives q ∷ []) [] survey
-    → DidSurveyBy tests records survey
-refused-by tests records f w = record { judged = w.judged ∙ sym f; size = w.size; each = λ n h. rw f (w.each n h) }
+  -- where neither the stores nor the length is refused, the records decide
+  pub records-decide : {ts us : List Test} {answer : Result Surveyed Refusal} → first_of us ≡ first_of ts → DidSurveyBy ts given octets records answer → DidSurveyBy us given octets records answer
+  records-decide e w = record { judged = w.judged ∙ sym e; found = w.found }
 
 -- octets are left over
 pub surveying-cut : {st : Stores} {site starts : List ℕ} {from : ℕ} → Surveying st site starts from → {tested : List ℕ} → tested ≡ record_from site from → length tested ≡ 0 → from < length site
-    → {survey : Surveyed} → DidSurveyBy (true gives WrongRecord ∷ []) [] survey → DidSurveyBy (records_tests st [] (records_of site)) (records_of site) survey
+    → first_of (records_tests st [] (records_of site)) ≡ Err WrongRecord
 unfolding is_marked
 surveying-cut {st} {site} {from = from} w q z h =
-    refused-by (records_tests st [] (records_of site)) (records_of site) (w.left ∙ ap (λ (rs : List (List ℕ)). first_of (records_tests st w.apart.lines rs)) (records-cut site from q z h))
+    w.left ∙ ap (λ (rs : List (List ℕ)). first_of (records_tests st w.apart.lines rs)) (records-cut site from q z h)
 
 module _ {st : Stores} {site starts : List ℕ} {from : ℕ} (w : Surveying st site starts from)
     {tested : List ℕ} (q : tested ≡ record_from site from) (h : 0 < length tested)
@@ -128,10 +130,8 @@ module _ {st : Stores} {site starts : List ℕ} {from : ℕ} (w : Surveying st s
   unrolled : first_of (records_tests st [] (records_of site)) ≡ first_of (here ++ behind)
   unrolled = w.left ∙ ap (λ (rs : List (List ℕ)). first_of (records_tests st w.apart.lines rs)) split
 
-  pub surveying-refused : (refusal : Refusal) → judged ≡ Err refusal → {survey : Surveyed} → DidSurveyBy (true gives refusal ∷ []) [] survey
-      → DidSurveyBy (records_tests st [] (records_of site)) (records_of site) survey
-  surveying-refused refusal f =
-      refused-by (records_tests st [] (records_of site)) (records_of site) (unrolled ∙ first-refused here behind refusal (sym (by_lines w.apart st octets l b j) ∙ f))
+  pub surveying-refused : (refusal : Refusal) → judged ≡ Err refusal → first_of (records_tests st [] (records_of site)) ≡ Err refusal
+  surveying-refused refusal f = unrolled ∙ first-refused here behind refusal (sym (by_lines w.apart st octets l b j) ∙ f)
 
   pub surveying-more : judged ≡ Ok tt → Surveying st site (set starts line from) (from + length octets)
   unfolding apart_more
@@ -146,8 +146,16 @@ module _ {st : Stores} {site starts : List ℕ} {from : ℕ} (w : Surveying st s
   }
 
 -- what a survey answers is determined
-pub survey-one : {tests : List Test} {records : List (List ℕ)} {a b : Surveyed} → DidSurveyBy tests records a → DidSurveyBy tests records b → a ≡ b
-survey-one {a = a} {b = b} x y =
-    let v : a.verdict ≡ b.verdict = x.judged ∙ sym y.judged in
+starts-one : {given : LentStores} {octets : Bor (List ℕ)} {records : List (List ℕ)} {a b : Surveyed} → Starts given octets records a → Starts given octets records b → a ≡ b
+starts-one {a = a} {b = b} x y =
+    let r : a.records ≡ b.records = x.read ∙ sym y.read in
+    let l : a.stores ≡ b.stores = x.lent ∙ sym y.lent in
     let s : a.starts ≡ b.starts = ext_get_or 0 a.starts b.starts (x.size ∙ sym y.size) (λ i h. let k : i < 256 = omega (arith, x.size) in x.each i k ∙ sym (y.each i k)) in
-    λ i. record { verdict = v i; starts = s i }
+    λ i. record { records = r i; stores = l i; starts = s i }
+
+pub survey-one : {tests : List Test} {given : LentStores} {octets : Bor (List ℕ)} {records : List (List ℕ)} {a b : Result Surveyed Refusal}
+    → DidSurveyBy tests given octets records a → DidSurveyBy tests given octets records b → a ≡ b
+survey-one {a = Ok s} {b = Ok t} x y = ap Ok (starts-one (x.found s refl) (y.found t refl))
+survey-one {a = Ok s} {b = Err r} x y = ok-err (x.judged ∙ sym y.judged)
+survey-one {a = Err q} {b = Ok t} x y = err-ok (x.judged ∙ sym y.judged)
+survey-one {a = Err q} {b = Err r} x y = ap Err (err-one (x.judged ∙ sym y.judged))

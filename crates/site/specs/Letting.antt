@@ -1,9 +1,8 @@
 -- Demand 3: a coupler "is fitted and lets the telegram pass in its direction of travel". Who may pass is the coupler's own definition.
-use Rattle.std.specs.Prelude.{ℕ, ◌<◌, Bool, false, cond, ◌&&◌, List, ◌≡◌, length, get_or}
+use Rattle.std.specs.Prelude.{ℕ, ◌<◌, Bool, cond, ◌&&◌, List, [], ◌∷◌, ◌≡◌, length, get_or}
 use Rattle.passing.specs.Passing.{may_pass, passage_of}
 use Rattle.passing.specs.declared.Passage.TheVariants.{NotFitted}
 use Rattle.passing.specs.declared.Passage.{Passage}
-use Rattle.site.specs.declared.BothWays.{BothWays}
 use Rattle.site.specs.Records.{line_of, codes_of, table_number, coupler_of, is_fitted}
 use Rattle.site.specs.Starts.{coupler_from}
 use Rattle.site.specs.Stores.{Stores, table_of}
@@ -24,15 +23,10 @@ line_lets_pass st kind destination records direction line = lets_pass st kind de
 unfoldable pub line_lets_pass_by : Stores → ℕ → ℕ → List ℕ → List ℕ → ℕ → ℕ → Bool
 line_lets_pass_by st kind destination site starts direction line = lets_pass st kind destination direction (coupler_from site starts line)
 
--- a mark for each of the 256 lines
-pub record Marks (holds : ℕ → Bool) (marks : List Bool) : Type 0 where
+-- two marks for each of the 256 lines: "in its direction of travel", 0 main to sub, 1 sub to main
+pub record MarksBothWays (holds : ℕ → ℕ → Bool) (marks : List (List Bool)) : Type 0 where
   pub size : length marks ≡ 256
-  pub each : (line : ℕ) → line < 256 → get_or marks line false ≡ holds line
-
--- "in its direction of travel": 0 main to sub, 1 sub to main
-pub record MarksBothWays (holds : ℕ → ℕ → Bool) (marks : BothWays) : Type 0 where
-  pub downward : Marks (holds 0) marks.down
-  pub upward : Marks (holds 1) marks.up
+  pub each : (line : ℕ) → line < 256 → get_or marks line [] ≡ holds 0 line ∷ holds 1 line ∷ []
 
 -- what the coupler of a line makes of a telegram with this count: the first reason not to hand it on, "no coupler fitted" before all others
 unfoldable pub passage_by : Stores → ℕ → ℕ → ℕ → ℕ → List ℕ → Passage

@@ -1,9 +1,12 @@
 -- A site surveyed: its verdict, and for each line where the record of its coupler starts, so that it is found again without a walk.
-use Rattle.std.specs.Prelude.{ℕ, ◌+◌, ◌<◌, cond, List, [], ◌∷◌, ◌≡◌, eqb, length, get_or, drop}
-use Rattle.frame.specs.Order.{Test, first_of, answer_by}
+use Rattle.std.specs.Prelude.{Result, Ok, Err, ℕ, ◌+◌, ◌<◌, cond, List, [], ◌∷◌, ◌≡◌, eqb, length, get_or, drop}
+use Rattle.frame.specs.Order.{Test, first_of}
+use Rattle.frame.specs.declared.Refusal.{Refusal}
+use Rattle.std.specs.Borrow.{Bor}
+use Rattle.site.specs.declared.stores.Stores.{Stores as LentStores}
 use Rattle.site.specs.declared.Surveyed.{Surveyed}
 use Rattle.site.specs.Records.{first_record, records_of, line_of, coupler_of}
-use Rattle.site.specs.Stores.{Stores}
+use Rattle.site.specs.Stores.{stores_in}
 use Rattle.site.specs.WellFormed.{site_tests}
 
 -- the record that starts at an index: no octets where the site does not have it whole
@@ -22,14 +25,25 @@ start_in line from found (r ∷ rs) = start_in line (from + length r) (cond (eqb
 unfoldable pub start_of : ℕ → List (List ℕ) → ℕ
 start_of line records = start_in line 0 no_start records
 
--- the verdict of tests, and where the records of each line start; those of a site that is refused are not looked up
-pub record DidSurveyBy (tests : List Test) (records : List (List ℕ)) (survey : Surveyed) : Type 0 where
-  pub judged : survey.verdict ≡ first_of tests
-  pub size : length survey.starts ≡ 256
-  pub each : (line : ℕ) → line < 256 → get_or survey.starts line 0 ≡ start_of line (answer_by (λ refusal. []) records (first_of tests))
+-- whether a site was surveyed or refused
+abbrev pub verdict_of : Result Surveyed Refusal → Result (Unit {0}) Refusal
+verdict_of (Ok s) = Ok tt
+verdict_of (Err r) = Err r
 
-abbrev pub DidSurvey : Stores → List ℕ → Surveyed → Type 0
-DidSurvey st site survey = DidSurveyBy (site_tests st site) (records_of site) survey
+-- the very records and stores that were given, and where the records of each line start
+pub record Starts (given : LentStores) (octets : Bor (List ℕ)) (records : List (List ℕ)) (s : Surveyed) : Type 0 where
+  pub lent : s.stores ≡ given
+  pub read : s.records ≡ octets
+  pub size : length s.starts ≡ 256
+  pub each : (line : ℕ) → line < 256 → get_or s.starts line 0 ≡ start_of line records
+
+-- the verdict of tests; a site that is refused has no starts
+pub record DidSurveyBy (tests : List Test) (given : LentStores) (octets : Bor (List ℕ)) (records : List (List ℕ)) (answer : Result Surveyed Refusal) : Type 0 where
+  pub judged : verdict_of answer ≡ first_of tests
+  pub found : (s : Surveyed) → answer ≡ Ok s → Starts given octets records s
+
+abbrev pub DidSurvey : LentStores → Bor (List ℕ) → Result Surveyed Refusal → Type 0
+DidSurvey given octets answer = DidSurveyBy (site_tests (stores_in given) octets.now) given octets (records_of octets.now) answer
 
 -- the record of a line's coupler by the starts that were noted
 abbrev pub coupler_from : List ℕ → List ℕ → ℕ → List ℕ

@@ -2,6 +2,7 @@
 -- A store is a multiple of 8,192 octets, at most 128 and 127 tables."
 use Rattle.std.specs.Prelude.{ℕ, ◌+◌, ◌-◌, ◌*◌, ◌%◌, Bool, cond, ◌&&◌, List, [], ltb, leb, eqb, length, take, drop}
 use Rattle.octets.specs.Part.{PartAt}
+use Rattle.site.specs.declared.stores.Stores.{Stores as LentStores}
 use Rattle.std.specs.Borrow.{Bor}
 
 pub record Stores : Type 0 where
@@ -10,6 +11,10 @@ pub record Stores : Type 0 where
 
 abbrev pub stores : List ℕ → List ℕ → Stores
 stores project own = record { project = project; own = own }
+
+-- what two lent stores hold
+abbrev pub stores_in : LentStores → Stores
+stores_in lent = stores lent.project.now lent.own.now
 
 -- whether a store has a table at this place
 unfoldable pub is_stored : ℕ → List ℕ → Bool

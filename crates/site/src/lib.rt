@@ -3,115 +3,100 @@
 #![tactic(auto)]
 
 mod records;
-pub mod stores;
+mod stores;
 
-ghost use Rattle.std.specs.Prelude.{◌≡◌, true, [], ◌∷◌};
-ghost use Rattle.frame.specs.Order.{first_of, ◌gives◌};
-ghost use Rattle.site.specs.Stores.{stores};
+ghost use Rattle.std.specs.Prelude.{◌≡◌, [], Err};
+ghost use Rattle.frame.specs.Order.{first_of};
+ghost use Rattle.site.specs.Stores.{stores_in};
 ghost use Rattle.site.specs.Records.{records_of};
 ghost use Rattle.site.specs.WellFormed.{has_table, record_tests, records_tests};
 ghost use Rattle.site.specs.Starts.{DidSurveyBy, DidSurvey, coupler_from};
-ghost use Rattle.site.specs.Stages.{record_both_ways};
+ghost use Rattle.site.specs.Stages.{record_both_ways, IsFilterOf};
 ghost use Rattle.site.specs.Letting.{line_lets_pass_by, MarksBothWays, passage_by};
 
 use frame::Refusal;
-use passing::Passage;
+use passing::{Address, Filter, Passage};
+pub use stores::Stores;
 
-// Whether a site is well-formed, and for each of the 256 lines where the record of its coupler starts;
-// FFFFh where there is none, and for every line of a site that is refused.
+// A well-formed site: its records, its stores, and for each of the 256 lines where the record of its coupler
+// starts; FFFFh where there is none.
 #[derive(Clone, Copy)]
-pub struct Surveyed {
-    pub verdict: Result<(), Refusal>,
+pub struct Surveyed<'a> {
+    pub records: &'a [u8],
+    pub stores: Stores<'a>,
     pub starts: [u16; 256],
 }
 
-// A mark for each of the 256 lines, of its coupler: main to sub and sub to main.
-#[derive(Clone, Copy)]
-pub struct BothWays {
-    pub down: [bool; 256],
-    pub up: [bool; 256],
-}
-
 // "FFh is allowed where no group code of that record is 1; every other number must lie in its store."
-fn has_table<'a>(octets: &[u8], project: &'a [u8], own: &'a [u8]) -> bool
-    ensures { result ≡ has_table (stores project.now own.now) octets.now }
+fn has_table<'a>(octets: &[u8], stores: Stores<'a>) -> bool
+    ensures { result ≡ has_table (stores_in stores.entry) octets.now }
 {
     let number = records::table_number(octets);
     if number == 0xff {
-        let asks = passing::settings::asks_table(records::codes_of(octets));
-        !asks
+        !passing::settings::asks_table(records::codes_of(octets))
     } else {
-        let table = stores::table_of(number, project, own);
-        table.len() == 8192
+        stores.table_of(number).len() == 8192
     }
 }
 
-fn judge_record<'a>(octets: &[u8], project: &'a [u8], own: &'a [u8], twice: bool) -> Result<(), Refusal>
-    ensures { result ≡ first_of (record_tests (stores project.now own.now) twice octets.now) }
+fn judge_record<'a>(octets: &[u8], stores: Stores<'a>, twice: bool) -> Result<(), Refusal>
+    ensures { result ≡ first_of (record_tests (stores_in stores.entry) twice octets.now) }
 {
-    if records::is_marked(octets) {
-        let allowed = passing::settings::are_codes(records::codes_of(octets));
-        let wrong = (records::line_of(octets) == 0) | !allowed;
-        if wrong {
-            return Err(Refusal::WrongSetting);
-        }
-        if has_table(octets, project, own) {
-            if twice {
-                return Err(Refusal::LineTwice);
-            }
-            Ok(())
-        } else {
-            Err(Refusal::NoTable)
-        }
-    } else {
+    let allowed = passing::settings::are_codes(records::codes_of(octets));
+    let wrong = (records::line_of(octets) == 0) | !allowed;
+    if !records::is_marked(octets) {
         Err(Refusal::WrongRecord)
+    } else if wrong {
+        Err(Refusal::WrongSetting)
+    } else if !has_table(octets, stores) {
+        Err(Refusal::NoTable)
+    } else if twice {
+        Err(Refusal::LineTwice)
+    } else {
+        Ok(())
     }
 }
 
-fn refused(refusal: Refusal) -> Surveyed
-    ensures { DidSurveyBy (true gives refusal ∷ []) [] result }
+// No coupler is looked up in a site that is refused.
+fn refused<'a>(refusal: Refusal) -> Result<Surveyed<'a>, Refusal>
+    ensures { result ≡ Err refusal }
 {
-    Surveyed {
-        verdict: Err(refusal),
-        starts: [0xffff; 256],
-    }
+    Err(refusal)
 }
 
 // "then record by record: 16, 15 (line, codes), 18, 17 (at the second)": a line was seen before if its
 // start is noted. Octets that are left over are no whole record.
-fn survey_records<'a>(site: &[u8], project: &'a [u8], own: &'a [u8]) -> Surveyed
-    ensures { DidSurveyBy (records_tests (stores project.now own.now) [] (records_of site.now)) (records_of site.now) result }
+fn survey_records<'a>(records: &'a [u8], stores: Stores<'a>) -> Result<Surveyed<'a>, Refusal>
+    ensures { DidSurveyBy (records_tests (stores_in stores.entry) [] (records_of records.now)) stores.entry records.entry (records_of records.now) result }
 {
     let mut starts = [0xffff; 256];
     let mut from: u16 = 0;
-    while records::record_from(site, from).len() > 0 {
-        let octets = records::record_from(site, from);
-        let line = records::line_of(octets) as usize;
+    while records::record_from(records, from).len() > 0 {
+        let octets = records::record_from(records, from);
+        let line = usize::from(records::line_of(octets));
         let twice = starts[line] != 0xffff;
-        let judged = judge_record(octets, project, own, twice);
-        if let Err(refusal) = judged {
-            return refused(refusal);
-        }
+        judge_record(octets, stores, twice)?;
         starts[line] = from;
         from += octets.len() as u16;
     }
-    if (from as usize) < site.len() {
-        return refused(Refusal::WrongRecord);
+    if usize::from(from) < records.len() {
+        return Err(Refusal::WrongRecord);
     }
-    Surveyed {
-        verdict: Ok(()),
+    Ok(Surveyed {
+        records,
+        stores,
         starts,
-    }
+    })
 }
 
 // Whether a site and its stores are well-formed, or the first refusal of document 01's order; and where
 // each coupler's record starts.
-pub fn survey<'a>(site: &[u8], project: &'a [u8], own: &'a [u8]) -> Surveyed
-    ensures { DidSurvey (stores project.now own.now) site.now result }
+pub fn survey<'a>(records: &'a [u8], stores: Stores<'a>) -> Result<Surveyed<'a>, Refusal>
+    ensures { DidSurvey stores.entry records.entry result }
 {
-    if stores::are_stores(project, own) {
-        if site.len() % 12 == 0 {
-            survey_records(site, project, own)
+    if stores.are_stores() {
+        if records.len() % 12 == 0 {
+            survey_records(records, stores)
         } else {
             refused(Refusal::WrongRecord)
         }
@@ -120,88 +105,52 @@ pub fn survey<'a>(site: &[u8], project: &'a [u8], own: &'a [u8]) -> Surveyed
     }
 }
 
-// Whether a record's coupler is fitted and lets the telegram pass, main to sub and sub to main. Only a group asks
-// for a table.
-fn lets_pass<'a>(
-    octets: &[u8],
-    project: &'a [u8],
-    own: &'a [u8],
-    kind: u8,
-    destination: u16,
-) -> [bool; 2]
-    ensures { result ≡ record_both_ways (stores project.now own.now) kind destination octets.now }
+// What a record's coupler goes by.
+fn filter_of<'a>(octets: &[u8], stores: Stores<'a>) -> Filter<'a>
+    ensures { IsFilterOf (stores_in stores.entry) octets.now result }
 {
-    if octets.len() == 0 {
-        return [false, false];
+    Filter {
+        line: records::line_of(octets),
+        codes: records::codes_of(octets),
+        table: stores.table_of(records::table_number(octets)),
     }
-    let line = records::line_of(octets);
-    let codes = records::codes_of(octets);
-    if kind == 1 {
-        let table = stores::table_of(records::table_number(octets), project, own);
-        let down = passing::may_pass(line, codes, table, 0, 1, destination);
-        let up = passing::may_pass(line, codes, table, 1, 1, destination);
-        [down, up]
+}
+
+// Whether a record's coupler is fitted and lets the telegram pass, main to sub and sub to main.
+fn lets_pass<'a>(octets: &[u8], stores: Stores<'a>, address: Address) -> [bool; 2]
+    ensures { result ≡ record_both_ways (stores_in stores.entry) address.kind address.destination octets.now }
+{
+    if octets.is_empty() {
+        [false, false]
     } else {
-        let none = &own[..0];
-        let down = passing::may_pass(line, codes, none, 0, kind, destination);
-        let up = passing::may_pass(line, codes, none, 1, kind, destination);
-        [down, up]
+        let filter = filter_of(octets, stores);
+        [filter.may_pass(0, address), filter.may_pass(1, address)]
     }
 }
 
-// For every line whether its coupler is fitted and lets the telegram pass, main to sub and sub to main:
-// each record is read once, for both directions.
-pub fn letting<'a>(
-    site: &[u8],
-    starts: &[u16; 256],
-    project: &'a [u8],
-    own: &'a [u8],
-    kind: u8,
-    destination: u16,
-) -> BothWays
-    ensures { MarksBothWays (line_lets_pass_by (stores project.now own.now) kind destination site.now starts.now) result }
-{
-    let mut down = [false; 256];
-    let mut up = [false; 256];
-    let mut line: usize = 0;
-    while line < 256 {
-        let octets = records::record_from(site, starts[line]);
-        let passes = lets_pass(octets, project, own, kind, destination);
-        down[line] = passes[0];
-        up[line] = passes[1];
-        line += 1;
+impl<'a> Surveyed<'a> {
+    // For every line whether its coupler is fitted and lets the telegram pass, main to sub and sub to main:
+    // each record is read once, for both directions.
+    pub fn letting(&self, address: Address) -> [[bool; 2]; 256]
+        ensures { MarksBothWays (line_lets_pass_by (stores_in self.now.stores) address.kind address.destination self.now.records.now self.now.starts) result }
+    {
+        let mut marks = [[false; 2]; 256];
+        for line in 0..256 {
+            let octets = records::record_from(self.records, self.starts[line]);
+            marks[line] = lets_pass(octets, self.stores, address);
+        }
+        marks
     }
-    BothWays { down, up }
-}
 
-// What the coupler of a line makes of a telegram that comes to it with this count.
-pub fn why_not<'a>(
-    site: &[u8],
-    starts: &[u16; 256],
-    project: &'a [u8],
-    own: &'a [u8],
-    line: u8,
-    direction: u8,
-    kind: u8,
-    destination: u16,
-    count: u8,
-) -> Passage
-    ensures { result ≡ passage_by (stores project.now own.now) kind destination direction count (coupler_from site.now starts.now line) }
-{
-    let at = line as usize;
-    let octets = records::record_from(site, starts[at]);
-    if octets.len() == 0 {
-        return Passage::NotFitted;
+    // What the coupler of a line makes of a telegram that comes to it with this count.
+    pub fn why_not(&self, line: u8, direction: u8, address: Address, count: u8) -> Passage
+        ensures { result ≡ passage_by (stores_in self.now.stores) address.kind address.destination direction count (coupler_from self.now.records.now self.now.starts line) }
+    {
+        let octets = records::record_from(self.records, self.starts[usize::from(line)]);
+        if octets.is_empty() {
+            Passage::NotFitted
+        } else {
+            filter_of(octets, self.stores).why_not(direction, address, count)
+        }
     }
-    let codes = records::codes_of(octets);
-    let table = stores::table_of(records::table_number(octets), project, own);
-    passing::why_not(
-        records::line_of(octets),
-        codes,
-        table,
-        direction,
-        kind,
-        destination,
-        count,
-    )
 }

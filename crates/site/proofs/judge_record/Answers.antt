@@ -5,7 +5,7 @@ use Rattle.site.proofs.judge_record.Goals as goal
 pub returns-then-wrong : goal.returns-then-wrong
 returns-then-wrong c =
     rw (
-      sym c.is_marked.ensures ∙ c.if-is_marked.true,
+      sym c.is_marked.ensures ∙ c.if-not-is_marked.false,
       ← c.line_of.ensures,
       ← c.codes_of.ensures,
       ← c.are_codes-allowed.ensures,
@@ -15,37 +15,37 @@ returns-then-wrong c =
 pub returns-then-twice : goal.returns-then-twice
 returns-then-twice c =
     rw (
-      sym c.is_marked.ensures ∙ c.if-is_marked.true,
+      sym c.is_marked.ensures ∙ c.if-not-is_marked.false,
       ← c.line_of.ensures,
       ← c.codes_of.ensures,
       ← c.are_codes-allowed.ensures,
       c.if-wrong.false,
-      sym c.has_table.ensures ∙ c.if-has_table.true,
+      sym c.has_table.ensures ∙ c.if-not-has_table.false,
       c.if-twice.true,
     ) refl
 
 pub returns-else-twice : goal.returns-else-twice
 returns-else-twice c =
     rw (
-      sym c.is_marked.ensures ∙ c.if-is_marked.true,
+      sym c.is_marked.ensures ∙ c.if-not-is_marked.false,
       ← c.line_of.ensures,
       ← c.codes_of.ensures,
       ← c.are_codes-allowed.ensures,
       c.if-wrong.false,
-      sym c.has_table.ensures ∙ c.if-has_table.true,
+      sym c.has_table.ensures ∙ c.if-not-has_table.false,
       c.if-twice.false,
     ) refl
 
-pub returns-else-has_table : goal.returns-else-has_table
-returns-else-has_table c =
+pub returns-then-not-has_table : goal.returns-then-not-has_table
+returns-then-not-has_table c =
     rw (
-      sym c.is_marked.ensures ∙ c.if-is_marked.true,
+      sym c.is_marked.ensures ∙ c.if-not-is_marked.false,
       ← c.line_of.ensures,
       ← c.codes_of.ensures,
       ← c.are_codes-allowed.ensures,
       c.if-wrong.false,
-      sym c.has_table.ensures ∙ c.if-has_table.false,
+      sym c.has_table.ensures ∙ c.if-not-has_table.true,
     ) refl
 
-pub returns-else-is_marked : goal.returns-else-is_marked
-returns-else-is_marked c = rw (sym c.is_marked.ensures ∙ c.if-is_marked.false) refl
+pub returns-then-not-is_marked : goal.returns-then-not-is_marked
+returns-then-not-is_marked c = rw (sym c.is_marked.ensures ∙ c.if-not-is_marked.true) refl

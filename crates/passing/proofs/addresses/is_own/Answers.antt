@@ -5,4 +5,4 @@ use Rattle.passing.proofs.addresses.is_own.Goals as goal
 
 pub returns : goal.returns
 unfolding is_own
-returns c = refl
+returns c = rw (c.from.ensures) refl

@@ -8,8 +8,8 @@ use Rattle.site.proofs.stores.table_at.Goals as goal
 
 pub returns-then-to-store : goal.returns-then-to-store
 unfolding table_at start_at is_stored
-returns-then-to-store c = rw (le-leb _ _ c.if-to-store.true, add-sub_cancel_left) (record { holds = refl; block = refl; offset = omega arith })
+returns-then-to-store c = rw (← c.from-from.ensures, le-leb _ _ c.if-to-store.true, add-sub_cancel_left) (record { holds = refl; block = refl; offset = omega arith })
 
 pub returns-else-to-store : goal.returns-else-to-store
 unfolding table_at start_at is_stored
-returns-else-to-store c = rw (lt-leb _ _ c.if-to-store.false) (record { holds = refl; block = refl; offset = omega arith })
+returns-else-to-store c = rw (← c.from-from.ensures, lt-leb _ _ c.if-to-store.false) (record { holds = refl; block = refl; offset = omega arith })

@@ -3,7 +3,7 @@ use mathlib.Core.Path.{refl}
 use native.Mathlib.Omega.{arith}
 use borrow.Author.Tests.{lt-ltb, le-ltb}
 use Rattle.site.specs.Stores.{table_of}
-use Rattle.site.proofs.stores.table_of.Goals as goal
+use Rattle.site.proofs.stores.Stores.table_of.Goals as goal
 
 pub returns-then-number-lt128 : goal.returns-then-number-lt128
 unfolding table_of

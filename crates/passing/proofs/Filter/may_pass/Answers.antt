@@ -1,6 +1,6 @@
 -- One code, chosen by the direction and the address's class, decides; the parts are as the calls ensure them.
 use Rattle.passing.specs.Passing.{may_pass}
-use Rattle.passing.proofs.may_pass.Goals as goal
+use Rattle.passing.proofs.Filter.may_pass.Goals as goal
 
 pub returns : goal.returns
 unfolding may_pass
