@@ -17,7 +17,7 @@ Edit = namedtuple("Edit", "crate name file text pairs")
 # The word of a clause, and its name if it has one.
 CLAUSE = re.compile(r"\b(requires|ensures)(?:\s+\w+)?\s*$")
 FN = re.compile(r'\b(pub(?:\([^)]*\))?\s+)?(?:extern\s+"C"\s+)?fn\s+(\w+)')
-IMPL = re.compile(r"^impl\s+(\w+)\s*\{", re.M)
+IMPL = re.compile(r"^impl(?:<[^>]*>)?\s+(\w+)(?:<[^>]*>)?\s*\{", re.M)
 # What stands at the margin before an item.
 SEEN = r"^(?:#\[[^\]]*\]\s*)*(pub\s+)?(?:pub\([^)]*\)\s+)?"
 MOD = re.compile(SEEN + r"mod\s+(\w+)\s*(;|\{)", re.M)
