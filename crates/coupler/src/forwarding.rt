@@ -11,6 +11,7 @@ ghost use Rattle.coupler.specs.Stages.{put_size, Sent, PassedOn, HandedBy};
 use crate::{Acknowledgement, Outcome, Setting};
 use cemi::Message;
 use frame::{Meaning, Refusal};
+use passing::{Address, Filter};
 
 // "On a refusal: its number, none, not, 0."
 pub(crate) fn refused(
@@ -31,7 +32,12 @@ pub(crate) fn refused(
 }
 
 // The refusals that stand before the reader's: 15, 18, 14, 13.
-pub(crate) fn judge(setting: Setting, codes: [[u8; 4]; 2], table: &[u8], room: usize) -> Result<(), Refusal>
+pub(crate) fn judge(
+    setting: Setting,
+    codes: [[u8; 4]; 2],
+    table: &[u8],
+    room: usize,
+) -> Result<(), Refusal>
     ensures { result ≡ first_of (setting_tests (coupler_by setting codes table.now) room) }
 {
     let allowed = passing::settings::are_codes(codes);
@@ -60,18 +66,25 @@ fn kind_of(meaning: Meaning) -> u8
     octets::flag(meaning.group, 1)
 }
 
+fn address_of(meaning: Meaning) -> Address
+    ensures { (result.kind ≡ kind_of meaning) × (result.destination ≡ meaning.destination) }
+{
+    Address {
+        kind: kind_of(meaning),
+        destination: meaning.destination,
+    }
+}
+
 // Address, codes and count allow forwarding.
 fn is_allowed(setting: Setting, codes: [[u8; 4]; 2], table: &[u8], meaning: Meaning) -> bool
     ensures { result ≡ is_allowed (coupler_by setting codes table.now) meaning }
 {
-    let passes = passing::may_pass(
-        setting.line,
+    let filter = Filter {
+        line: setting.line,
         codes,
         table,
-        setting.side,
-        kind_of(meaning),
-        meaning.destination,
-    );
+    };
+    let passes = filter.may_pass(setting.side, address_of(meaning));
     passes & (meaning.count != 0)
 }
 
@@ -140,7 +153,7 @@ fn pass_on(
     requires { (in_range meaning (length payload.now) ≡ true) × (272 ≤ length room.old) }
     ensures { PassedOn (coupler_by setting codes table.now) repetition meaning payload.now room.old result room.new }
 {
-    let own = passing::is_own(setting.line, kind_of(meaning), meaning.destination);
+    let own = passing::is_own(setting.line, address_of(meaning));
     let allowed = is_allowed(setting, codes, table, meaning);
     let from_ip = (setting.side == 0) & (setting.medium == 1);
     let acknowledgement = acknowledgement(from_ip, own, allowed);

@@ -2,4 +2,4 @@
 use Rattle.coupler.proofs.forwarding.is_allowed.Goals as goal
 
 pub returns : goal.returns
-returns c = rw (c.may_pass-passes.ensures, c.kind_of.ensures)
+returns c = rw (c.may_pass-passes.ensures, c.address_of.ensures.0, c.address_of.ensures.1)

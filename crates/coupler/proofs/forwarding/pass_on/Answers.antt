@@ -9,10 +9,10 @@ returns-then-forwards c =
     let if1 = c.if-forwards in
     let is-allowed = c.is_allowed-allowed in
     let is-own = c.is_own-own in
-    let kind-of = c.kind_of in
+    let address = c.address_of in
     let forwards = ap (λ (b : Bool). b && not c.args.repetition) (sym is-allowed.ensures) ∙ if1.true in
     record {
-      outcome = rw (c.acknowledgement-acknowledgement.ensures, is-own.ensures, kind-of.ensures, is-allowed.ensures, forwards, forward.ensures.count);
+      outcome = rw (c.acknowledgement-acknowledgement.ensures, is-own.ensures, address.ensures.0, address.ensures.1, is-allowed.ensures, forwards, forward.ensures.count);
       left = rw forwards forward.ensures.left;
     }
 
@@ -20,6 +20,6 @@ pub returns-else-forwards : goal.returns-else-forwards
 returns-else-forwards c =
     let is-allowed = c.is_allowed-allowed in
     let is-own = c.is_own-own in
-    let kind-of = c.kind_of in
+    let address = c.address_of in
     let stops = ap (λ (b : Bool). b && not c.args.repetition) (sym is-allowed.ensures) ∙ c.if-forwards.false in
-    record { outcome = rw (c.acknowledgement-acknowledgement.ensures, is-own.ensures, kind-of.ensures, is-allowed.ensures, stops); left = rw stops refl }
+    record { outcome = rw (c.acknowledgement-acknowledgement.ensures, is-own.ensures, address.ensures.0, address.ensures.1, is-allowed.ensures, stops); left = rw stops refl }
