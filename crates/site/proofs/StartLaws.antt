@@ -1,5 +1,5 @@
 -- The starts that a survey of a well-formed site notes find the record of each line's coupler.
-use Rattle.std.specs.Prelude.{Ok}
+use Rattle.std.specs.Prelude.{Result, Ok}
 use Prim.Native.Nat.{ℕ, zero, suc, ◌+◌, ◌-◌, ◌≤◌, ◌<◌}
 use mathlib.Core.Bool.{Bool, true, false, cond}
 use mathlib.Core.List.{List, [], ◌∷◌}
@@ -8,13 +8,14 @@ use native.Mathlib.Omega.{arith}
 use lib.Dec.{eqb}
 use lib.ListN.{length, drop, drop_of_length-le}
 use Rattle.frame.proofs.Order.{passed-iff}
+use Rattle.frame.specs.declared.Refusal.{Refusal}
 use Rattle.octets.specs.Octets.{Octets}
 use Rattle.site.proofs.LettingLaws.{two-marks}
 use Rattle.site.proofs.RecordCount.{site-most}
 use Rattle.site.proofs.RecordLaws.{records-end, record-some, records-more, records-cut, by_equal}
 use Rattle.site.specs.Letting.{lets_pass, line_lets_pass, line_lets_pass_by, MarksBothWays, passage_by, passage_at}
 use Rattle.site.specs.Records.{record_size, first_record, records_of, line_of, coupler_in, coupler_of}
-use Rattle.site.specs.Starts.{record_from, no_start, start_in, start_of, DidSurvey, coupler_from, Noted}
+use Rattle.site.specs.Starts.{record_from, no_start, start_in, start_of, verdict_of, DidSurvey, coupler_from, Noted}
 use Rattle.site.specs.Stores.{Stores, stores_in}
 use Rattle.site.specs.WellFormed.{site_tests}
 use Rattle.site.specs.declared.stores.Stores.{Stores as LentStores}
@@ -59,13 +60,15 @@ module _ (site : List ℕ) (line : ℕ) where
   unfolding start_of coupler_of
   start-finds h = found-by (length site) 0 no_start (omega arith) ∙ ap (λ (x : List ℕ). coupler_in line x (records_of site)) (no_record site no_start h)
 
-pub survey-notes : {given : LentStores} {octets : Bor (List ℕ)} {s : Surveyed} → DidSurvey given octets (Ok s) → Octets octets.now → Noted octets.now s.starts
-survey-notes {given} {octets} {s} w o =
+pub survey-notes : {given : LentStores} {octets : Bor (List ℕ)} {answer : Result Surveyed Refusal} → DidSurvey given octets answer → Octets octets.now
+    → {s : Surveyed} → answer ≡ Ok s → Noted s.records.now s.starts
+survey-notes {given} {octets} w o {s} f =
     let st = stores_in given in
     let site = octets.now in
-    let found = w.found s refl in
-    let most = (site-most st site o ((passed-iff (site_tests st site)).0 (sym w.judged))).1 in
-    record { each = λ line h. ap (record_from site) (found.each line h) ∙ start-finds site line (omega (arith, most)) }
+    let found = w.found s f in
+    let fine = sym w.judged ∙ ap verdict_of f in
+    let most = (site-most st site o ((passed-iff (site_tests st site)).0 fine)).1 in
+    rw found.read (record { each = λ line h. ap (record_from site) (found.each line h) ∙ start-finds site line (omega (arith, most)) })
 
 module _ {site starts : List ℕ} (w : Noted site starts) (st : Stores) (kind destination : ℕ) where
   pub noted-passage : (direction line count : ℕ) → line < 256

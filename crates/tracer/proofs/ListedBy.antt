@@ -2,7 +2,7 @@
 -- definition's. Marks are known of the lines below 256, and a path between two of those crosses no other coupler.
 use Rattle.std.specs.Prelude.{Result, Ok, Err}
 use Prim.Native.Nat.{ℕ, zero, suc, ◌-◌, ◌≤◌, ◌<◌}
-use mathlib.Core.Bool.{Bool, true}
+use mathlib.Core.Bool.{false, Bool, true}
 use mathlib.Core.List.{List}
 use mathlib.Core.Path.{◌≡◌, refl, sym, ap, ◌∙◌}
 use native.Mathlib.Omega.{arith}
@@ -13,9 +13,9 @@ use Rattle.frame.specs.Order.{first_of}
 use Rattle.frame.specs.declared.Refusal.{Refusal}
 use Rattle.octets.proofs.Truth.{by_cases}
 use Rattle.octets.specs.Room.{over}
-use Rattle.site.specs.Letting.{line_lets_pass, Marks}
+use Rattle.site.specs.Letting.{line_lets_pass, MarksBothWays}
 use Rattle.site.specs.Records.{records_of}
-use Rattle.site.specs.Starts.{DidSurvey}
+use Rattle.site.specs.Starts.{verdict_of}
 use Rattle.site.specs.Stores.{Stores}
 use Rattle.site.specs.WellFormed.{is_among, site_tests}
 use Rattle.site.specs.declared.Surveyed.{Surveyed}
@@ -89,38 +89,36 @@ by_both : {l l' f f' : ℕ} → l ≡ l' → f ≡ f' → ◌≡◌ {A = Result 
 by_both a b = rw (a, b) refl
 
 -- what the tracer's three steps ensure
-module _ (st : Stores) (site : List ℕ) (q : Query) {downward upward : List Bool} (small : q.start < 256)
-    (d : Marks (line_lets_pass st q.kind q.destination (records_of site) 0) downward)
-    (u : Marks (line_lets_pass st q.kind q.destination (records_of site) 1) upward) where
+module _ (st : Stores) (site : List ℕ) (q : Query) {marks : List (List Bool)} (small : q.start < 256) (m : MarksBothWays (line_lets_pass st q.kind q.destination (records_of site)) marks) where
   abbrev asked : Crossing → Bool
   asked = crossing_passes st site q
 
-  downs : (n : ℕ) → n < 256 → marked downward upward (down n) ≡ asked (down n)
+  downs : (n : ℕ) → n < 256 → marked marks (down n) ≡ asked (down n)
   unfolding marked
-  downs = d.each
+  downs n h = ap (λ (l : List Bool). get_or l 0 false) (m.each n h)
 
-  ups : (n : ℕ) → n < 256 → marked downward upward (up n) ≡ asked (up n)
+  ups : (n : ℕ) → n < 256 → marked marks (up n) ≡ asked (up n)
   unfolding marked
-  ups = u.each
+  ups n h = ap (λ (l : List Bool). get_or l 1 false) (m.each n h)
 
-  module _ {reached : List ℕ} {made : ℕ} (w : Spread (marked downward upward) q.start q.count reached made) where
+  module _ {reached : List ℕ} {made : ℕ} (w : Spread (marked marks) q.start q.count reached made) where
     counted : count_below (is_reached reached) 256 ≡ lines_listed st site q
     unfolding lines_listed
     counted =
         count_same (is_reached reached) (is_listed asked q.start q.count) 256
-        (λ i h. reached-listed (marked downward upward) q i reached (w.each i h) ∙ listed_same (marked downward upward) asked downs ups q small i h)
+        (λ i h. reached-listed (marked marks) q i reached (w.each i h) ∙ listed_same (marked marks) asked downs ups q small i h)
 
     entries : each_below (entry_by q reached) 256 ≡ listed st site q
     unfolding listed
     entries =
         each_same (entry_by q reached) (entry asked q) 256
-        (λ i h. entry-by (marked downward upward) q i reached (w.each i h) ∙ entry-same (marked downward upward) asked downs ups q small i h)
+        (λ i h. entry-by (marked marks) q i reached (w.each i h) ∙ entry-same (marked marks) asked downs ups q small i h)
 
     handed-on : made ≡ forwardings st site q
     unfolding forwardings
     handed-on =
         w.forwarded
-        ∙ count_same (is_forwarded_to (marked downward upward) q.start q.count) (is_forwarded_to asked q.start q.count) 256 (forwarded-same (marked downward upward) asked downs ups q small)
+        ∙ count_same (is_forwarded_to (marked marks) q.start q.count) (is_forwarded_to asked q.start q.count) 256 (forwarded-same (marked marks) asked downs ups q small)
         ∙ forwarded-lines asked q small
 
     pub listed_by : {lines : ℕ} {room room' : List ℕ} → (lines ≡ count_below (is_reached reached) 256) × (room' ≡ over (each_below (entry_by q reached) 256) room)
@@ -143,15 +141,15 @@ module _ (st : Stores) (site : List ℕ) (q : Query) (room : List ℕ) where
   pub asked-refused : {r : Refusal} {answer : Result Traced Refusal} → first_of (asking_tests q (length room)) ≡ Err r → answer ≡ Err r → DidTrace st site q room answer room
   asked-refused {r} e a = did-trace (Err r) (first-refused (asking_tests q (length room)) (site_tests st site) r e) a refl
 
-  module _ (e : first_of (asking_tests q (length room)) ≡ Ok tt) {survey : Surveyed} (s : DidSurvey st site survey) where
-    surveyed : first_of (trace_tests st site q (length room)) ≡ survey.verdict
-    surveyed = first-passed (asking_tests q (length room)) (site_tests st site) e ∙ sym s.judged
+  module _ (e : first_of (asking_tests q (length room)) ≡ Ok tt) (survey : Result Surveyed Refusal) (s : verdict_of survey ≡ first_of (site_tests st site)) where
+    surveyed : first_of (trace_tests st site q (length room)) ≡ verdict_of survey
+    surveyed = first-passed (asking_tests q (length room)) (site_tests st site) e ∙ sym s
 
-    pub site-refused : {r : Refusal} {answer : Result Traced Refusal} → survey.verdict ≡ Err r → answer ≡ Err r → DidTrace st site q room answer room
-    site-refused {r} f a = did-trace (Err r) (surveyed ∙ f) a refl
+    pub site-refused : {r : Refusal} {answer : Result Traced Refusal} → survey ≡ Err r → answer ≡ Err r → DidTrace st site q room answer room
+    site-refused {r} f a = did-trace (Err r) (surveyed ∙ ap verdict_of f) a refl
 
-    pub trace-listed : {answer : Traced} {room' : List ℕ} → survey.verdict ≡ Ok tt → DidList st site q room answer room' → DidTrace st site q room (Ok answer) room'
-    trace-listed f l = did-trace (Ok tt) (surveyed ∙ f) l.answered l.left
+    pub trace-listed : {answer : Traced} {room' : List ℕ} → {t : Surveyed} → survey ≡ Ok t → DidList st site q room answer room' → DidTrace st site q room (Ok answer) room'
+    trace-listed f l = did-trace (Ok tt) (surveyed ∙ ap verdict_of f) l.answered l.left
 
 -- two outcomes that the contract allows coincide
 pub traced-one : {st : Stores} {site : List ℕ} {q : Query} {room : List ℕ} {r₁ r₂ : Result Traced Refusal} {a₁ a₂ : List ℕ}

@@ -75,10 +75,10 @@ module _ (f : Crossing → Bool) (s c : ℕ) where
       rw (reach-listed t) (by_cases (is_listed f s c t) (λ e. rw e (lt-ltb 0 (suc (distance s t)) (omega arith))) (λ e. rw e refl))
 
 -- main sides known, a line is known
-pub reach-by : (d u : List Bool) (lines : List ℕ) (s c t : ℕ) → ((n : ℕ) → n < t → get_or lines n 0 ≡ reach (marked d u) s c n)
-    → reach_by d u lines s c t ≡ reach (marked d u) s c t
+pub reach-by : (m : List (List Bool)) (lines : List ℕ) (s c t : ℕ) → ((n : ℕ) → n < t → get_or lines n 0 ≡ reach (marked m) s c n)
+    → reach_by m lines s c t ≡ reach (marked m) s c t
 unfolding reach_by reach marked
-reach-by d u lines s c t h =
+reach-by m lines s c t h =
     by_cases (is_among t (main_sides s))
     (λ e. rw (e, path-climb s t e) refl)
     (λ e.
@@ -100,10 +100,10 @@ module _ {from top : ℕ} where
     pub climb-on : is_among top (main_sides main) ≡ true
     climb-on = rw em (on-next top from d e).1
 
-    pub climb-more : (d u : List Bool) (c l : ℕ) {l' r : ℕ} → l' ≡ handed c l (get_or u from false) → r ≡ along (marked d u) c l' (climbing main top)
-        → r ≡ along (marked d u) c l (climbing from top)
+    pub climb-more : (m : List (List Bool)) (c l : ℕ) {l' r : ℕ} → l' ≡ handed c l (get_or (get_or m from []) 1 false) → r ≡ along (marked m) c l' (climbing main top)
+        → r ≡ along (marked m) c l (climbing from top)
     unfolding marked
-    climb-more _ u c l el q =
+    climb-more _ c l el q =
         rw (before-off from (top ∷ []) (on-next top from d e).0 (rw (ne_eqb top from (λ z. d (sym z))) refl)) (rw (el, em) at q)
 
 pub count_most : (f : ℕ → Bool) (n : ℕ) → count_below f n ≤ n
@@ -143,19 +143,19 @@ module _ {f : Crossing → Bool} {s c : ℕ} {lines : List ℕ} {made i : ℕ} (
       let e : i ≡ 256 = omega (arith, w.most) in
       record { size = w.size; each = rw e at w.known; forwarded = rw e at w.forwarded }
 
-module _ (d u : List Bool) {s c : ℕ} {lines : List ℕ} {made i : ℕ} (w : Spreading (marked d u) s c lines made i) where
-  pub spreading-more : {made' r : ℕ} → i < 256 → r ≡ reach_by d u lines s c i → made' ≡ made + cond (ltb 1 r) 1 0
-      → Spreading (marked d u) s c (set lines i r) made' (i + 1)
-  spreading-more {made'} {r} h e m =
-      let k : r ≡ reach (marked d u) s c i = e ∙ reach-by d u lines s c i w.known in
+module _ (m : List (List Bool)) {s c : ℕ} {lines : List ℕ} {made i : ℕ} (w : Spreading (marked m) s c lines made i) where
+  pub spreading-more : {made' r : ℕ} → i < 256 → r ≡ reach_by m lines s c i → made' ≡ made + cond (ltb 1 r) 1 0
+      → Spreading (marked m) s c (set lines i r) made' (i + 1)
+  spreading-more {made'} {r} h e added =
+      let k : r ≡ reach (marked m) s c i = e ∙ reach-by m lines s c i w.known in
       record {
         most = omega arith;
         size = length-set lines i r ∙ w.size;
         few = λ n. by_cases (eqb n i)
-            (λ q. rw (eqb-true n i q, get_or-set_same lines i r 0 (omega (arith, w.size))) (omega (arith, k, reach-five (marked d u) s c i)))
+            (λ q. rw (eqb-true n i q, get_or-set_same lines i r 0 (omega (arith, w.size))) (omega (arith, k, reach-five (marked m) s c i)))
             (λ q. rw (get_or-set_other lines i n r 0 (eqb-false n i q)) (w.few n));
         known = λ n l. by_cases (eqb n i)
             (λ q. rw (eqb-true n i q, get_or-set_same lines i r 0 (omega (arith, w.size))) k)
             (λ q. rw (get_or-set_other lines i n r 0 (eqb-false n i q)) (w.known n (omega (arith, eqb-false n i q))));
-        forwarded = rw (add-one i, ← w.forwarded, ← reach-forwarded (marked d u) s c i, ← k) m;
+        forwarded = rw (add-one i, ← w.forwarded, ← reach-forwarded (marked m) s c i, ← k) added;
       }

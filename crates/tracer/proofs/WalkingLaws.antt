@@ -13,7 +13,7 @@ use Rattle.frame.specs.Order.{first_of, answer_by}
 use Rattle.frame.specs.declared.Refusal.{Refusal}
 use Rattle.site.specs.Letting.{passage_at}
 use Rattle.site.specs.Records.{records_of}
-use Rattle.site.specs.Starts.{DidSurvey}
+use Rattle.site.specs.Starts.{verdict_of}
 use Rattle.site.specs.Stores.{Stores}
 use Rattle.site.specs.WellFormed.{is_among, site_tests}
 use Rattle.site.specs.declared.Surveyed.{Surveyed}
@@ -93,12 +93,12 @@ module _ (st : Stores) (site : List ℕ) (q : Query) (line : ℕ) where
   pub why-asked : {r : Refusal} → first_of (asking_tests q 768) ≡ Err r → Err r ≡ answer_why st site q line
   why-asked {r} e = answer-by (Err r) (first-refused (asking_tests q 768) (site_tests st site) r e) refl
 
-  module _ (e : first_of (asking_tests q 768) ≡ Ok tt) {survey : Surveyed} (s : DidSurvey st site survey) where
-    surveyed : first_of (why_tests st site q) ≡ survey.verdict
-    surveyed = first-passed (asking_tests q 768) (site_tests st site) e ∙ sym s.judged
+  module _ (e : first_of (asking_tests q 768) ≡ Ok tt) (survey : Result Surveyed Refusal) (s : verdict_of survey ≡ first_of (site_tests st site)) where
+    surveyed : first_of (why_tests st site q) ≡ verdict_of survey
+    surveyed = first-passed (asking_tests q 768) (site_tests st site) e ∙ sym s
 
-    pub why-refused : {r : Refusal} → survey.verdict ≡ Err r → Err r ≡ answer_why st site q line
-    why-refused {r} f = answer-by (Err r) (surveyed ∙ f) refl
+    pub why-refused : {r : Refusal} → survey ≡ Err r → Err r ≡ answer_why st site q line
+    why-refused {r} f = answer-by (Err r) (surveyed ∙ ap verdict_of f) refl
 
-    pub why-explained : {answer : Result (Option Stop) Refusal} → survey.verdict ≡ Ok tt → answer ≡ why_of st site q line → answer ≡ answer_why st site q line
-    why-explained f a = answer-by (Ok tt) (surveyed ∙ f) a
+    pub why-explained : {answer : Result (Option Stop) Refusal} → {t : Surveyed} → survey ≡ Ok t → answer ≡ why_of st site q line → answer ≡ answer_why st site q line
+    why-explained f a = answer-by (Ok tt) (surveyed ∙ ap verdict_of f) a

@@ -23,20 +23,20 @@ along f count lines (x ∷ xs) = along f count (handed count lines (f x)) xs
 unfoldable pub reach : (Crossing → Bool) → ℕ → ℕ → ℕ → ℕ
 reach f start count line = along f count 1 (path start line)
 
--- what two rows of marks, by line, say of a crossing
-unfoldable pub marked : List Bool → List Bool → Crossing → Bool
-marked downward upward x = get_or (cond (eqb x.direction 0) downward upward) x.line false
+-- what marks, by line and direction, say of a crossing
+unfoldable pub marked : List (List Bool) → Crossing → Bool
+marked marks x = get_or (get_or marks x.line []) x.direction false
 
 -- the way up to a line that lies between the starting line and 00h
 abbrev pub climbing : ℕ → ℕ → List Crossing
 climbing start top = up_over (before_common (main_sides start) (top ∷ []))
 
 -- a line is reached up that way, or down over its own coupler from its main side
-unfoldable pub reach_by : List Bool → List Bool → List ℕ → ℕ → ℕ → ℕ → ℕ
-reach_by downward upward lines start count line =
+unfoldable pub reach_by : List (List Bool) → List ℕ → ℕ → ℕ → ℕ → ℕ
+reach_by marks lines start count line =
     cond (is_among line (main_sides start))
-    (along (marked downward upward) count 1 (climbing start line))
-    (handed count (get_or lines (main_side line) 0) (get_or downward line false))
+    (along (marked marks) count 1 (climbing start line))
+    (handed count (get_or lines (main_side line) 0) (get_or (get_or marks line []) 0 false))
 
 -- each forwarding puts the telegram on one line, over the last coupler of the path there
 unfoldable pub is_forwarded_to : (Crossing → Bool) → ℕ → ℕ → ℕ → Bool

@@ -6,10 +6,10 @@ mod listing;
 mod reaching;
 mod walking;
 
-ghost use Rattle.std.specs.Prelude.{◌≡◌, ◌≤◌, length};
+ghost use Rattle.std.specs.Prelude.{◌≡◌, ◌≤◌, length, Ok};
 ghost use Rattle.frame.specs.Order.{first_of};
 ghost use Rattle.site.specs.Starts.{Noted};
-ghost use Rattle.site.specs.Stores.{stores};
+ghost use Rattle.site.specs.Stores.{stores_in};
 ghost use Rattle.tracer.specs.Lines.{main_side};
 ghost use Rattle.tracer.specs.Query.{query_of, hopped_in, on_arrival};
 ghost use Rattle.tracer.specs.Tracing.{asking_tests, DidTrace};
@@ -17,7 +17,8 @@ ghost use Rattle.tracer.specs.Reaching.{DidList};
 ghost use Rattle.tracer.specs.Why.{why_of, answer_why};
 
 use frame::Refusal;
-use passing::Passage;
+use passing::{Address, Passage};
+use site::{Stores, Surveyed};
 
 // What a planner asks: starting line, kind (0 individual, 1 group), destination, count.
 #[derive(Clone, Copy)]
@@ -69,6 +70,15 @@ pub fn main_side(line: u8) -> u8
 }
 
 impl Query {
+    fn address(self) -> Address
+        ensures { (result.kind ≡ self.kind) × (result.destination ≡ self.destination) }
+    {
+        Address {
+            kind: self.kind,
+            destination: self.destination,
+        }
+    }
+
     // The count with which a coupler hands the telegram on.
     fn hopped(self, count: u8) -> u8
         ensures { result ≡ hopped_in self count }
@@ -103,18 +113,11 @@ fn judge(query: Query, room: usize) -> Result<(), Refusal>
 }
 
 // Of a well-formed site, with where each line's record starts.
-fn list<'a>(
-    query: Query,
-    site: &[u8],
-    starts: &[u16; 256],
-    project: &'a [u8],
-    own: &'a [u8],
-    room: &mut [u8],
-) -> Traced
-    requires { (768 ≤ length room.old) × Noted site.now starts.now }
-    ensures { DidList (stores project.now own.now) site.now query room.old result room.new }
+fn list<'a>(query: Query, site: &Surveyed<'a>, room: &mut [u8]) -> Traced
+    requires { (768 ≤ length room.old) × Noted site.now.records.now site.now.starts }
+    ensures { DidList (stores_in site.now.stores) site.now.records.now query room.old result room.new }
 {
-    let passing = site::letting(site, starts, project, own, query.kind, query.destination);
+    let passing = site.letting(query.address());
     let arrivals = reaching::spread(&passing, query);
     let lines = listing::list(&arrivals.lines, query, room);
     Traced {
@@ -127,49 +130,37 @@ fn list<'a>(
 // of the room: three octets for each, in rising order.
 pub fn trace<'a>(
     query: Query,
-    site: &[u8],
-    project: &'a [u8],
-    own: &'a [u8],
+    site: &'a [u8],
+    stores: Stores<'a>,
     room: &mut [u8],
 ) -> Result<Traced, Refusal>
-    ensures { DidTrace (stores project.now own.now) site.now query room.old result room.new }
+    ensures { DidTrace (stores_in stores.entry) site.now query room.old result room.new }
 {
     judge(query, room.len())?;
-    let survey = site::survey(site, project, own);
-    survey.verdict?;
-    Ok(list(query, site, &survey.starts, project, own, room))
+    let surveyed = site::survey(site, stores)?;
+    Ok(list(query, &surveyed, room))
 }
 
-fn explain<'a>(
-    query: Query,
-    site: &[u8],
-    starts: &[u16; 256],
-    project: &'a [u8],
-    own: &'a [u8],
-    line: u8,
-) -> Result<Option<Stop>, Refusal>
-    requires { Noted site.now starts.now }
-    ensures { result ≡ why_of (stores project.now own.now) site.now query line }
+fn explain<'a>(query: Query, site: &Surveyed<'a>, line: u8) -> Option<Stop>
+    requires { Noted site.now.records.now site.now.starts }
+    ensures { Ok result ≡ why_of (stores_in site.now.stores) site.now.records.now query line }
 {
     let sent = Ok(query.count);
-    let joined = walking::walk_up(query, site, starts, project, own, sent, query.start, line);
-    let walk = walking::walk_down(query, site, starts, project, own, joined, query.start, line);
-    Ok(walk.err())
+    let joined = walking::walk_up(query, site, sent, query.start, line);
+    walking::walk_down(query, site, joined, query.start, line).err()
 }
 
 // Whether the telegram comes to a line; if not, the first coupler on the path that does not hand it
 // on, in which direction, and why.
 pub fn why<'a>(
     query: Query,
-    site: &[u8],
-    project: &'a [u8],
-    own: &'a [u8],
+    site: &'a [u8],
+    stores: Stores<'a>,
     line: u8,
 ) -> Result<Option<Stop>, Refusal>
-    ensures { result ≡ answer_why (stores project.now own.now) site.now query line }
+    ensures { result ≡ answer_why (stores_in stores.entry) site.now query line }
 {
     judge(query, 768)?;
-    let survey = site::survey(site, project, own);
-    survey.verdict?;
-    explain(query, site, &survey.starts, project, own, line)
+    let surveyed = site::survey(site, stores)?;
+    Ok(explain(query, &surveyed, line))
 }

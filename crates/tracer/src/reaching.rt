@@ -5,7 +5,6 @@ ghost use Rattle.tracer.specs.Lines.{main_side, main_sides, depth};
 ghost use Rattle.tracer.specs.Reaching.{handed, along, climbing, marked, reach_by, Spread};
 
 use crate::{Arrivals, Query};
-use site::BothWays;
 
 // One coupler hands the telegram on if it lets it pass and the count lasts.
 pub(crate) fn hand(count: u8, lines: u8, passes: bool) -> u8
@@ -18,32 +17,32 @@ pub(crate) fn hand(count: u8, lines: u8, passes: bool) -> u8
 }
 
 // Up from a line to one of its main sides.
-fn climb(passing: &BothWays, query: Query, from: u8, top: u8, lines: u8) -> u8
+fn climb(passing: &[[bool; 2]; 256], query: Query, from: u8, top: u8, lines: u8) -> u8
     requires { (is_among top (main_sides from) ≡ true) × (lines + depth from < 255) }
-    ensures { result ≡ along (marked passing.now.down passing.now.up) query.count lines (climbing from top) }
+    ensures { result ≡ along (marked passing.now) query.count lines (climbing from top) }
 {
     if from == top {
         return lines;
     }
-    let lines = hand(query.count, lines, passing.up[from as usize]);
+    let lines = hand(query.count, lines, passing[from as usize][1]);
     climb(passing, query, crate::main_side(from), top, lines)
 }
 
 // The lines put on before are known of every line below this one.
-fn reach_of(passing: &BothWays, query: Query, lines: &[u8; 256], line: u8) -> u8
+fn reach_of(passing: &[[bool; 2]; 256], query: Query, lines: &[u8; 256], line: u8) -> u8
     requires { get_or lines.now (main_side line) 0 < 255 }
-    ensures { result ≡ reach_by passing.now.down passing.now.up lines.now query.start query.count line }
+    ensures { result ≡ reach_by passing.now lines.now query.start query.count line }
 {
     if crate::lines::is_above(line, query.start) {
         return climb(passing, query, query.start, line, 1);
     }
     let main = crate::main_side(line) as usize;
-    hand(query.count, lines[main], passing.down[line as usize])
+    hand(query.count, lines[main], passing[line as usize][0])
 }
 
 // Every line in rising order, so that a line's main side comes before it.
-pub(crate) fn spread(passing: &BothWays, query: Query) -> Arrivals
-    ensures { Spread (marked passing.now.down passing.now.up) query.start query.count result.lines result.forwardings }
+pub(crate) fn spread(passing: &[[bool; 2]; 256], query: Query) -> Arrivals
+    ensures { Spread (marked passing.now) query.start query.count result.lines result.forwardings }
 {
     let mut lines = [0u8; 256];
     let mut forwardings: usize = 0;

@@ -5,4 +5,4 @@ use Rattle.tracer.proofs.WalkingLaws.{explained}
 use Rattle.tracer.proofs.explain.Goals as goal
 
 pub returns : goal.returns
-returns c = ap Ok c.err.ensures.value ∙ explained _ _ _ _ c.walk_up-joined.ensures c.walk_down-walk.ensures
+returns c = ap Ok c.err.ensures.value ∙ explained _ _ _ _ c.walk_up-joined.ensures c.walk_down.ensures

@@ -9,7 +9,7 @@ use Rattle.tracer.proofs.reaching.spread.Goals as goal
 use Rattle.tracer.proofs.reaching.spread.Goals.{else-reached-gt1, then-reached-gt1}
 
 pub loop-line-init : goal.loop-line-init
-loop-line-init c = spreading-none (marked c.args.passing.now.down c.args.passing.now.up) c.args.query.start c.args.query.count _ refl
+loop-line-init c = spreading-none (marked c.args.passing.now) c.args.query.start c.args.query.count _ refl
 
 pub reach_of-reached-requires : goal.reach_of-reached-requires
 reach_of-reached-requires c =
@@ -22,7 +22,7 @@ overflow_add-forwardings c = omega (arith, made-few c.loop-line.invariant)
 pub loop-line-preserved : goal.loop-line-preserved
 loop-line-preserved c =
     let a = c.args in
-    spreading-more a.passing.now.down a.passing.now.up c.loop-line.invariant c.loop-line-test.true c.reach_of-reached.ensures
+    spreading-more a.passing.now c.loop-line.invariant c.loop-line-test.true c.reach_of-reached.ensures
     (elim c.if-reached-gt1.branch [
       | then-reached-gt1 w ↦ rw (lt-ltb 1 _ w.if-reached-gt1.true) w.forwardings-is
       | else-reached-gt1 w ↦ rw (le-ltb 1 _ w.if-reached-gt1.false) (omega (arith, w.forwardings-is))

@@ -2,7 +2,7 @@
 use mathlib.Core.Path.{◌∙◌}
 use Rattle.frame.proofs.HandedOn.{handed-on}
 use Rattle.site.proofs.StartLaws.{noted-passage}
-use Rattle.site.specs.Stores.{stores}
+use Rattle.site.specs.Stores.{stores_in}
 use Rattle.tracer.proofs.WalkingLaws.{hand-stopped, hand-goes, hand-stops}
 use Rattle.tracer.proofs.walking.hand_on.Goals as goal
 
@@ -13,13 +13,13 @@ pub returns-then-does_pass : goal.returns-then-does_pass
 returns-then-does_pass c =
     let why-not = c.why_not-reason in
     let a = c.args in
-    let st = stores a.project.now a.own.now in
-    let reason = why-not.ensures ∙ noted-passage c.requires st a.query.kind a.query.destination a.direction a.coupler _ c.ranges.coupler.fits in
+    let st = stores_in a.site.now.stores in
+    let reason = (rw (c.address.ensures.0, c.address.ensures.1) at why-not.ensures) ∙ noted-passage c.requires st a.query.kind a.query.destination a.direction a.coupler _ c.ranges.coupler.fits in
     hand-goes _ _ a.query _ _ c.in_ok-count.was reason c.does_pass.ensures c.if-does_pass.true c.hopped.ensures
 
 pub returns : goal.returns
 returns c =
     let a = c.args in
-    let st = stores a.project.now a.own.now in
-    let reason = c.why_not-reason.ensures ∙ noted-passage c.requires st a.query.kind a.query.destination a.direction a.coupler _ c.ranges.coupler.fits in
+    let st = stores_in a.site.now.stores in
+    let reason = (rw (c.address.ensures.0, c.address.ensures.1) at c.why_not-reason.ensures) ∙ noted-passage c.requires st a.query.kind a.query.destination a.direction a.coupler _ c.ranges.coupler.fits in
     hand-stops _ _ a.query _ _ c.in_ok-count.was reason c.does_pass.ensures c.if-does_pass.false
