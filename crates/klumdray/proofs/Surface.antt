@@ -97,7 +97,7 @@ pub why-inside : (st : Stores) (site : List ℕ) (q : Query) (line : ℕ) → qu
 unfolding answer_why why_through
 why-inside st site q line f = rw f
 
-pub traced_fit : (st : Stores) (site : List ℕ) (q : Query) {room : List ℕ} {answer : ℕ} {traced : Traced} {room' : List ℕ} → query_fits q ≡ true
+pub traced_fit : (st : Stores) (site : List ℕ) (q : Query) {room : List ℕ} {answer : ℕ} {traced : Result Traced Refusal} {room' : List ℕ} → query_fits q ≡ true
     → DidTrace st site q room traced room' → answer ≡ traced_number traced → TracedThrough st site q room answer room'
 traced_fit st site q {room} f x e =
     let v = trace-inside st site q (length room) f in

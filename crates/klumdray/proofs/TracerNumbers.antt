@@ -1,7 +1,7 @@
 -- The tracer's numbers: at most 256 lines and 255 forwardings, so that nothing is cut off; and what stops a telegram is a crossing of the
 -- path, whose line and direction are below 256 and 2.
 use Rattle.std.specs.Prelude.{Result, Ok, Err, Option, Some, None}
-use Prim.Native.Nat.{ℕ, zero, suc, ◌+◌, ◌%◌, ◌^◌, ◌≤◌, ◌<◌}
+use Prim.Native.Nat.{ℕ, zero, suc, ◌+◌, ◌*◌, ◌%◌, ◌^◌, ◌≤◌, ◌<◌}
 use mathlib.Core.Bool.{Bool, true, false, ◌&&◌}
 use mathlib.Core.List.{List, [], ◌∷◌, ◌++◌}
 use mathlib.Core.Logic.{◌↔◌}
@@ -71,26 +71,26 @@ module _ (st : Stores) (site : List ℕ) (q : Query) where
   unfolding lines_listed
   lines-some h = count-some (is_listed (crossing_passes st site q) q.start q.count) 256 q.start h (start-listed (crossing_passes st site q) q)
 
-traced_fields : Traced → List Field
-traced_fields t = 8 holding t.number ∷ 16 holding t.lines ∷ 16 holding t.forwardings ∷ []
+traced_fields : ℕ → ℕ → ℕ → List Field
+traced_fields n l f = 8 holding n ∷ 16 holding l ∷ 16 holding f ∷ []
 
-module _ (t : Traced) (n : t.number ≤ last_number) (l : t.lines ≤ 256) (f : t.forwardings ≤ 510) where
-  traced_fit : Fit (traced_fields t)
+module _ (n l f : ℕ) (hn : n ≤ last_number) (hl : l ≤ 256) (hf : f ≤ 510) {answer : ℕ} (e : answer ≡ n + l * 2 ^ 8 + f * 2 ^ 24) where
+  traced_fit : Fit (traced_fields n l f)
   unfolding traced_fields
   traced_fit = (omega arith, (omega arith, (omega arith, tt)))
 
-  traced-packed : traced_number t ≡ packed (traced_fields t)
-  unfolding traced_number traced_fields
-  traced-packed = omega arith
-
-  traced-fits : traced_number t < 2 ^ 40
+  traced-packed : answer ≡ packed (traced_fields n l f)
   unfolding traced_fields
-  traced-fits = below (traced_fields t) (traced_number t) traced_fit traced-packed
+  traced-packed = omega (arith, e)
 
-  traced-decoded : traced_from (traced_number t) ≡ traced_numbered t
+  traced-fits : answer < 2 ^ 40
+  unfolding traced_fields
+  traced-fits = below (traced_fields n l f) answer traced_fit traced-packed
+
+  traced-decoded : traced_from answer ≡ record { number = n; values = l ∷ f ∷ [] }
   unfolding traced_fields
   traced-decoded =
-      let field = read_back (traced_fields t) (traced_number t) traced_fit traced-packed in
+      let field = read_back (traced_fields n l f) answer traced_fit traced-packed in
       rw (field 0 (omega arith), field 1 (omega arith), field 2 (omega arith))
 
 -- what fits has a line for its start
@@ -105,12 +105,14 @@ module _ (st : Stores) (site : List ℕ) (q : Query) where
   traced-answer : (v : Result (Unit {0}) Refusal) → Tells 40 traced_from (traced_number (traced_by st site q v)) (traced_numbered (traced_by st site q v)) (λ r. v ≡ Err r)
   unfolding traced_number
   traced-answer (Ok _) =
-      let d = traced-decoded (traced_by st site q (Ok tt)) (omega arith) (lines-most st site q) (forwardings-most st site q) in
-      tells-accepted (ap (λ (i : Numbered). i.number) d) (λ r. ok-err) (traced-fits (traced_by st site q (Ok tt)) (omega arith) (lines-most st site q) (forwardings-most st site q)) d
+      let l = lines_listed st site q in
+      let f = forwardings st site q in
+      let n = traced_number (traced_by st site q (Ok tt)) in
+      let e : n ≡ 0 + l * 2 ^ 8 + f * 2 ^ 24 = omega (arith, lines-most st site q, forwardings-most st site q) in
+      let d = traced-decoded 0 l f (omega arith) (lines-most st site q) (forwardings-most st site q) e in
+      tells-accepted (ap (λ (i : Numbered). i.number) d) (λ r. ok-err) (traced-fits 0 l f (omega arith) (lines-most st site q) (forwardings-most st site q) e) d
   traced-answer (Err r) =
-      let t : Traced = traced_by st site q (Err r) in
-      let e : traced_number t ≡ number r = omega arith in
-      tells-refused r e refl (λ q. err-one) (omega arith) (ap traced_from (sym e) ∙ traced-decoded t (number-listed r).1 (omega arith) (omega arith))
+      tells-refused r refl refl (λ q. err-one) (omega arith) (traced-decoded (number r) 0 0 (number-listed r).1 (omega arith) (omega arith) (omega arith))
 
   module _ {room : List ℕ} {answer : ℕ} {room' : List ℕ} (w : TracedThrough st site q room answer room') where
     pub trace-told : Tells 40 traced_from answer (traced_numbered (traced_by st site q (first_of (trace_through_tests st site q (length room))))) (λ r. first_of (trace_through_tests st site q (length room)) ≡ Err r)

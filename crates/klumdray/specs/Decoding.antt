@@ -210,8 +210,9 @@ outcome_in n = record {
 }
 
 -- how many lines are listed, and "the number of forwardings made on the site"; with a refusal 0 and 0
-abbrev pub traced_numbered : Traced → Numbered
-traced_numbered t = record { number = t.number; values = t.lines ∷ t.forwardings ∷ [] }
+abbrev pub traced_numbered : Result Traced Refusal → Numbered
+traced_numbered (Ok t) = record { number = 0; values = t.lines ∷ t.forwardings ∷ [] }
+traced_numbered (Err r) = record { number = number r; values = 0 ∷ 0 ∷ [] }
 
 abbrev pub traced_from : ℕ → Numbered
 traced_from n = record { number = number_in n; values = lines_in n ∷ forwardings_in n ∷ [] }

@@ -14,8 +14,9 @@ use Rattle.frame.specs.declared.Refusal.{Refusal}
 use Rattle.tracer.specs.declared.Stop.{Stop}
 
 -- bits 0 to 7: the refusal's number or 0; 8 to 23: how many lines are listed; 24 to 39: the forwardings made
-unfoldable pub traced_number : Traced → ℕ
-traced_number t = t.number + t.lines % 65536 * 2 ^ 8 + t.forwardings % 65536 * 2 ^ 24
+unfoldable pub traced_number : Result Traced Refusal → ℕ
+traced_number (Ok t) = t.lines % 65536 * 2 ^ 8 + t.forwardings % 65536 * 2 ^ 24
+traced_number (Err r) = number r
 
 -- bits 0 to 7: the refusal's number or 0; 8 to 15: the reason, 0 if the line is reached; 16 to 23: the coupler's line; 24: the direction of travel
 abbrev pub explanation_number : Result (Option Stop) Refusal → ℕ

@@ -22,6 +22,7 @@ ghost use Rattle.klumdray.specs.Traces.{explanation_number, TracedThrough, why_t
 
 use cemi::Codes;
 use frame::Refusal;
+use site::Stores;
 
 pub fn klumdray_check_octet(octets: &[u8]) -> u32
     ensures { result ≡ check_octet octets.now }
@@ -320,7 +321,7 @@ pub fn klumdray_trace<'a>(
 {
     if traces::query_fits(start, kind, destination, count) {
         let query = traces::query_from(start, kind, destination, count);
-        let traced = tracer::trace(query, site, project, own, room);
+        let traced = tracer::trace(query, site, Stores { project, own }, room);
         traces::of_traced(traced)
     } else {
         14
@@ -343,7 +344,7 @@ pub fn klumdray_why<'a>(
     if fit {
         let query = traces::query_from(start, kind, destination, count);
         let asked = numbers::octet_of(line);
-        let explanation = tracer::why(query, site, project, own, asked);
+        let explanation = tracer::why(query, site, Stores { project, own }, asked);
         traces::of_explanation(explanation)
     } else {
         14

@@ -26,12 +26,17 @@ pub(crate) fn query_from(start: u32, kind: u32, destination: u32, count: u32) ->
     }
 }
 
-pub(crate) fn of_traced(traced: Traced) -> u64
-    ensures { result ≡ traced_number traced }
+pub(crate) fn of_traced(answer: Result<Traced, Refusal>) -> u64
+    ensures { result ≡ traced_number answer }
 {
-    let lines = (traced.lines % 65536) as u64;
-    let forwardings = (traced.forwardings % 65536) as u64;
-    traced.number as u64 + lines * 256 + forwardings * 16777216
+    match answer {
+        Ok(traced) => {
+            let lines = (traced.lines % 65536) as u64;
+            let forwardings = (traced.forwardings % 65536) as u64;
+            lines * 256 + forwardings * 16777216
+        }
+        Err(refusal) => u64::from(refusal.number()),
+    }
 }
 
 fn of_passage(passage: Passage) -> u32

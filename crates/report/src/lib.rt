@@ -12,6 +12,7 @@ ghost use Rattle.report.specs.Stages.{Puts};
 ghost use Rattle.report.specs.Report.{query_in, query_tests, answer_text, report_of, Reported};
 
 use frame::Refusal;
+use site::Stores;
 use tracer::Query;
 
 // "On refusal it writes `refused N`."
@@ -49,7 +50,11 @@ fn put_trace(input: &[u8], room: &mut [u8]) -> usize
     let query = query_in(input);
     let none = &input[..0];
     let mut list = [0u8; 768];
-    match tracer::trace(query, &input[5..], none, none, &mut list) {
+    let stores = Stores {
+        project: none,
+        own: none,
+    };
+    match tracer::trace(query, &input[5..], stores, &mut list) {
         Ok(traced) => put_listed(&list[..traced.lines * 3], traced.forwardings, room),
         Err(refusal) => put_refused(refusal, room),
     }
