@@ -18,4 +18,3 @@ delivered-one e = cc
 
 pub raised-kept : {A : Type 0} → ◌≡◌ {A = Result Confirmed Refusal} (Ok Raised) (Ok Kept) → A
 raised-kept e = let z : ◌≡◌ {A = ℕ} 0 1 = cc in absurd (omega arith)
-

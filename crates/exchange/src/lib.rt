@@ -74,9 +74,7 @@ pub fn message(answer: Result<Received, Refusal>, octets: &[u8]) -> &[u8]
     ensures { PartAt octets.entry result (delivered_at answer octets.now) (delivered_message answer octets.now) }
 {
     match answer {
-        Ok(Received::Delivered(request)) => {
-            tunnelling::message(Ok(request), octets)
-        }
+        Ok(Received::Delivered(request)) => { tunnelling::message(Ok(request), octets) }
         Ok(Received::Again) => &octets[..0],
         Err(_) => &octets[..0],
     }
@@ -104,7 +102,13 @@ pub fn send_on(
 }
 
 // A request goes out on the channel of a number; the table stays.
-pub fn send(table: Table, number: u8, message: Message, payload: &[u8], room: &mut [u8]) -> Result<usize, Refusal>
+pub fn send(
+    table: Table,
+    number: u8,
+    message: Message,
+    payload: &[u8],
+    room: &mut [u8],
+) -> Result<usize, Refusal>
     ensures { Sent table.channels number message payload.now room.old result room.new }
 {
     let channels = table.channels;

@@ -143,7 +143,10 @@ pub fn read_acknowledgement(octets: &[u8]) -> Result<Acknowledgement, Refusal>
 }
 
 // Writes an acknowledgement, or refuses by 13.
-pub fn write_acknowledgement(acknowledgement: Acknowledgement, room: &mut [u8]) -> Result<usize, Refusal>
+pub fn write_acknowledgement(
+    acknowledgement: Acknowledgement,
+    room: &mut [u8],
+) -> Result<usize, Refusal>
     ensures { Wrote true (acknowledgement_octets acknowledgement) room.old result room.new }
 {
     if room.len() < 10 {
