@@ -1,114 +1,104 @@
 // The table of channels: each open or closed, with a receive and a send counter.
 #![tactic(auto)]
 
-ghost use Rattle.std.specs.Prelude.{◌≡◌, length};
+ghost use Rattle.std.specs.Prelude.{◌≡◌};
 ghost use Rattle.channels.specs.Table.{many, closed, fresh, all_closed, channel_at, put, counted, raised};
 
 // "numbered 1 to 4": the one place of the code that says how many.
 pub const CHANNELS: usize = 4;
 
 // A channel that was never open has counters 0.
-#[derive(Clone, Copy)]
+#[derive(Clone, Copy, Debug, PartialEq, Eq)]
 pub struct Channel {
     pub opened: bool,
     pub receive: u8,
     pub send: u8,
 }
 
-#[derive(Clone, Copy)]
+#[derive(Clone, Copy, Debug, PartialEq, Eq)]
 pub struct Table {
     pub channels: [Channel; CHANNELS],
 }
 
-fn size(channels: [Channel; CHANNELS]) -> usize
-    ensures { (result ≡ length channels) × (result ≡ many) }
-{
-    CHANNELS
-}
+impl Channel {
+    fn closed() -> Channel
+        ensures { result ≡ closed }
+    {
+        Channel {
+            opened: false,
+            receive: 0,
+            send: 0,
+        }
+    }
 
-fn closed() -> Channel
-    ensures { result ≡ closed }
-{
-    Channel {
-        opened: false,
-        receive: 0,
-        send: 0,
+    // "a fresh channel (counters 0; the caller names the open ones)"
+    fn fresh() -> Channel
+        ensures { result ≡ fresh }
+    {
+        Channel {
+            opened: true,
+            ..Channel::closed()
+        }
+    }
+
+    // The channel with other counters.
+    pub fn counted(self, receive: u8, send: u8) -> Channel
+        ensures { result ≡ counted self receive send }
+    {
+        Channel {
+            receive,
+            send,
+            ..self
+        }
     }
 }
 
-// "a fresh channel (counters 0; the caller names the open ones)"
-fn fresh() -> Channel
-    ensures { result ≡ fresh }
-{
-    Channel {
-        opened: true,
-        receive: 0,
-        send: 0,
+impl Table {
+    pub fn all_closed() -> Table
+        ensures { result.channels ≡ all_closed many }
+    {
+        Table {
+            channels: [Channel::closed(); CHANNELS],
+        }
     }
-}
 
-pub fn all_closed() -> Table
-    ensures { result.channels ≡ all_closed many }
-{
-    let channels = [closed(); CHANNELS];
-    Table { channels }
-}
-
-// The channel of a number; one that is no channel's is closed.
-pub fn channel_at(channels: [Channel; CHANNELS], number: u8) -> Channel
-    ensures { result ≡ channel_at channels number }
-{
-    if number == 0 {
-        return closed();
+    // The channel of a number; one that is no channel's is closed.
+    pub fn channel_at(self, number: u8) -> Channel
+        ensures { result ≡ channel_at self.channels number }
+    {
+        let Some(at) = number.checked_sub(1) else {
+            return Channel::closed();
+        };
+        match self.channels.get(at as usize) {
+            Some(channel) => *channel,
+            None => Channel::closed(),
+        }
     }
-    let at = number as usize - 1;
-    if at < size(channels) {
-        channels[at]
-    } else {
-        closed()
-    }
-}
 
-// The channels with another one under a number; as they were where the number is no channel's.
-pub fn put(channels: [Channel; CHANNELS], number: u8, channel: Channel) -> [Channel; CHANNELS]
-    ensures { result ≡ put channels number channel }
-{
-    if number == 0 {
-        return channels;
+    // The table with another channel under a number; as it was where the number is no channel's.
+    pub fn put(mut self, number: u8, channel: Channel) -> Table
+        ensures { result.channels ≡ put self.channels number channel }
+    {
+        if let Some(at) = number.checked_sub(1)
+            && (at as usize) < CHANNELS
+        {
+            self.channels[at as usize] = channel;
+        }
+        self
     }
-    let at = number as usize - 1;
-    if at < size(channels) {
-        let mut next = channels;
-        next[at] = channel;
-        next
-    } else {
-        channels
-    }
-}
 
-// The table with a channel that the caller names opened, counters 0.
-pub fn opened(table: Table, number: u8) -> Table
-    ensures { result.channels ≡ put table.channels number fresh }
-{
-    let before = table.channels;
-    let channels = put(before, number, fresh());
-    Table { channels }
-}
-
-// The channel with other counters.
-pub fn counted(channel: Channel, receive: u8, send: u8) -> Channel
-    ensures { result ≡ counted channel receive send }
-{
-    Channel {
-        opened: channel.opened,
-        receive,
-        send,
+    // The table with a channel that the caller names opened, counters 0.
+    pub fn opened(self, number: u8) -> Table
+        ensures { result.channels ≡ put self.channels number fresh }
+    {
+        self.put(number, Channel::fresh())
     }
 }
 
 // "raised by one, 255 going to 0"
+#[tactic(auto, unfolding(crate::specs::Table::raised))]
 pub fn raised(counter: u8) -> u8
     ensures { result ≡ raised counter }
 {
-    if counter == 255 { 0 } else { counter + 1 }
+    counter.wrapping_add(1)
 }

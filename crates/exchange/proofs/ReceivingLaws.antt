@@ -1,7 +1,7 @@
 -- A request judged in parts: cEMI's answer behind the channel's tests, those behind the header's, and the acknowledgement's room.
 use Rattle.std.specs.Prelude.{Result, Ok, Err}
 use Prim.Native.Nat.{ℕ, ◌≤◌}
-use mathlib.Core.Bool.{Bool, true, false, not, ◌||◌}
+use mathlib.Core.Bool.{Bool, true, false, ◌||◌}
 use mathlib.Core.List.{List, ◌∷◌, ◌++◌}
 use mathlib.Core.Path.{◌≡◌, refl, sym, ap, ◌∙◌}
 use native.Mathlib.Omega.{arith}
@@ -10,7 +10,7 @@ use lib.ListN.{length}
 use borrow.Author.Tests.{le-ltb, ltb-false}
 use Rattle.octets.proofs.Room.{laid-front}
 use Rattle.octets.specs.Room.{laid, over}
-use Rattle.frame.proofs.Order.{passed-iff, refused-iff, first-passed}
+use Rattle.frame.proofs.Order.{passed-iff, refused-iff}
 use Rattle.frame.specs.Order.{Test, first_of, answer_by, ◌gives◌}
 use Rattle.frame.specs.declared.Refusal.TheVariants.{SmallRoom}
 use Rattle.frame.specs.declared.Refusal.{Refusal}
@@ -19,13 +19,12 @@ use Rattle.cemi.specs.Reading.{cemi_tests, read_cemi}
 use Rattle.cemi.specs.declared.Codes.TheVariants.{All}
 use Rattle.cemi.specs.declared.Message.{Message}
 use Rattle.channels.proofs.CallLaws.{called-one}
-use Rattle.channels.specs.Table.{channel_at, put}
 use Rattle.channels.specs.declared.Channel.{Channel}
 use Rattle.tunnelling.proofs.ConnectionLaws.{connection-refused, connection-passed}
 use Rattle.tunnelling.proofs.LayoutLaws.{length-acknowledgement}
 use Rattle.tunnelling.specs.Layout.{request_service}
 use Rattle.tunnelling.specs.Reading.{channel_in, counter_in, message, connected_tests, read_connection}
-use Rattle.exchange.specs.Receiving.{is_expected, is_behind, channel_tests, taken_as, received, channel_after, sent_back, ReceivedOn, Took}
+use Rattle.exchange.specs.Receiving.{is_expected, is_behind, channel_tests, taken_as, received, sent_back, ReceivedOn, Took}
 use Rattle.exchange.specs.Stages.{received_behind, received_message}
 use Rattle.exchange.specs.declared.Received.TheVariants.{Delivered, Again}
 use Rattle.exchange.specs.declared.Received.{Received}
@@ -44,30 +43,23 @@ module _ (s : List ℕ) where
   pub taken-delivered : (x : Message) → read_cemi All (message s) ≡ Ok x → taken_as true s ≡ Ok (Delivered (record { channel = channel_in s; counter = counter_in s; message = x }))
   taken-delivered x e = ap (λ (m : Message). (Ok (Delivered (record { channel = channel_in s; counter = counter_in s; message = m })))) ((cemi-accepted All (message s) x).0 e).1
 
-  module _ (c : Channel) where
-    pub behind-passed : c.opened ≡ true → is_expected c s || is_behind c s ≡ true → received_behind c s ≡ received_message (is_expected c s) s
-    unfolding received_behind received_message
-    behind-passed o k =
-        let ts : List Test = channel_tests c (is_expected c s || is_behind c s) in
-        ap (answer_by Err (taken_as (is_expected c s) s)) (first-passed ts (cemi_tests All (message s)) ((passed-iff ts).1 (ap not o, (ap not k, tt))))
+  module _ (c : Channel) (room : ℕ) (fits : 10 ≤ room) where
+    past_room : (ts : List Test) → first_of (ltb room 10 gives SmallRoom ∷ ts) ≡ first_of ts
+    past_room ts = rw (le-ltb room 10 fits)
 
-    module _ (room : ℕ) (fits : 10 ≤ room) where
-      past_room : (ts : List Test) → first_of (ltb room 10 gives SmallRoom ∷ ts) ≡ first_of ts
-      past_room ts = rw (le-ltb room 10 fits)
+    pub connection-refuses : (r : Refusal) → read_connection request_service s ≡ Err r → received c s room ≡ Err r
+    unfolding received
+    connection-refuses r e =
+        let us : List Test = channel_tests c (is_expected c s || is_behind c s) ++ cemi_tests All (message s) in
+        let ts : List Test = connected_tests request_service s in
+        ap (answer_by Err (taken_as (is_expected c s) s)) (past_room (ts ++ us) ∙ connection-refused request_service s us e)
 
-      pub connection-refuses : (r : Refusal) → read_connection request_service s ≡ Err r → received c s room ≡ Err r
-      unfolding received
-      connection-refuses r e =
-          let us : List Test = channel_tests c (is_expected c s || is_behind c s) ++ cemi_tests All (message s) in
-          let ts : List Test = connected_tests request_service s in
-          ap (answer_by Err (taken_as (is_expected c s) s)) (past_room (ts ++ us) ∙ connection-refused request_service s us e)
-
-      pub connection-passes : read_connection request_service s ≡ Ok tt → received c s room ≡ received_behind c s
-      unfolding received received_behind
-      connection-passes e =
-          let us : List Test = channel_tests c (is_expected c s || is_behind c s) ++ cemi_tests All (message s) in
-          let ts : List Test = connected_tests request_service s in
-          ap (answer_by Err (taken_as (is_expected c s) s)) (past_room (ts ++ us) ∙ connection-passed request_service s us e)
+    pub connection-passes : read_connection request_service s ≡ Ok tt → received c s room ≡ received_behind c s
+    unfolding received received_behind
+    connection-passes e =
+        let us : List Test = channel_tests c (is_expected c s || is_behind c s) ++ cemi_tests All (message s) in
+        let ts : List Test = connected_tests request_service s in
+        ap (answer_by Err (taken_as (is_expected c s) s)) (past_room (ts ++ us) ∙ connection-passed request_service s us e)
 
 -- the acknowledgement has room: nothing is sent back where the room is below 10
 refused-small : (c : Channel) (s : List ℕ) (room : ℕ) → ltb room 10 ≡ true → received c s room ≡ Err SmallRoom
@@ -89,22 +81,6 @@ sent-size a s room c e = by-room (ltb room 10) refl
 -- the call where the channel is given, as its parts
 pub received-on : (c : Channel) (s room : List ℕ) {a : Result Received Refusal} {room' : List ℕ} → a ≡ received c s (length room) → room' ≡ laid (sent_back a s) 0 room → ReceivedOn c s room a room'
 received-on c s room {a} e w = record { answers = e; left = w ∙ laid-front (sent_back a s) room (sent-size a s (length room) c e) }
-
--- the call on its table, as its parts
-pub took : (cs : List Channel) (s room : List ℕ) {k : ℕ} {c c' : Channel} {a : Result Received Refusal} {cs' : List Channel} {room' : List ℕ}
-    → k ≡ channel_in s → c ≡ channel_at cs k → ReceivedOn c s room a room' → c' ≡ channel_after a c → cs' ≡ put cs k c'
-    → Took cs s room a cs' room'
-took cs s room {k} {c} {c'} {a} e₁ e₂ y e₃ e₄ =
-    let n : ℕ = channel_in s in
-    let e : c ≡ channel_at cs n = e₂ ∙ ap (channel_at cs) e₁ in
-    let f : a ≡ received (channel_at cs n) s (length room) = y.answers ∙ ap (λ (x : Channel). received x s (length room)) e in
-    record {
-      called = record {
-        answers = f;
-        table = e₄ ∙ ap (λ (i : ℕ). put cs i c') e₁ ∙ ap (put cs n) (e₃ ∙ ap (channel_after a) e ∙ ap (λ (x : Result Received Refusal). channel_after x (channel_at cs n)) f);
-      };
-      left = y.left;
-    }
 
 -- two outcomes that a contract allows coincide
 module _ {s room : List ℕ} {a₁ a₂ : Result Received Refusal} {r₁ r₂ : List ℕ} where

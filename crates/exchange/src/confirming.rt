@@ -7,6 +7,7 @@ use crate::Confirmed;
 use channels::Channel;
 use frame::Refusal;
 
+#[tactic(auto, unfolding(crate::specs::Confirming::is_sent))]
 fn is_sent(channel: Channel, octets: &[u8]) -> bool
     ensures { result ≡ is_sent channel octets.now }
 {
@@ -14,37 +15,32 @@ fn is_sent(channel: Channel, octets: &[u8]) -> bool
 }
 
 // From the channel's tests on.
+#[tactic(auto, unfolding(crate::specs::Stages::confirmed_behind))]
 pub(crate) fn confirmed_behind(channel: Channel, octets: &[u8]) -> Result<Confirmed, Refusal>
     ensures { result ≡ confirmed_behind channel octets.now }
 {
-    let sent = is_sent(channel, octets);
-    if channel.opened {
-        if sent {
-            if 10 < octets.len() {
-                return Err(Refusal::LeftOver);
-            }
-            if octets::octet(octets, 9) == 0 {
-                Ok(Confirmed::Raised)
-            } else {
-                Ok(Confirmed::Kept)
-            }
-        } else {
-            Err(Refusal::OtherCounter)
-        }
+    if !channel.opened {
+        return Err(Refusal::NotOpen);
+    }
+    if !is_sent(channel, octets) {
+        return Err(Refusal::OtherCounter);
+    }
+    if 10 < octets.len() {
+        return Err(Refusal::LeftOver);
+    }
+    if octets::octet(octets, 9) == 0 {
+        Ok(Confirmed::Raised)
     } else {
-        Err(Refusal::NotOpen)
+        Ok(Confirmed::Kept)
     }
 }
 
 pub(crate) fn channel_confirmed(answer: Result<Confirmed, Refusal>, channel: Channel) -> Channel
     ensures { result ≡ channel_confirmed answer channel }
 {
-    match answer {
-        Ok(Confirmed::Raised) => {
-            let send = channels::raised(channel.send);
-            channels::counted(channel, channel.receive, send)
-        }
-        Ok(Confirmed::Kept) => channel,
-        Err(_) => channel,
+    if let Ok(Confirmed::Raised) = answer {
+        channel.counted(channel.receive, channels::raised(channel.send))
+    } else {
+        channel
     }
 }

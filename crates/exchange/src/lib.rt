@@ -16,9 +16,7 @@ ghost use Rattle.exchange.specs.Sending.{SentOn, Sent};
 use cemi::{Codes, Message};
 use channels::{Channel, Table};
 use frame::Refusal;
-use tunnelling::Request;
-
-const TUNNELLING_ACK: u16 = 0x0421;
+use tunnelling::{Request, TUNNELLING_ACK};
 
 // What becomes of a request: delivered, acknowledged again and not delivered, or refused.
 #[derive(Clone, Copy)]
@@ -27,23 +25,11 @@ pub enum Received {
     Again,
 }
 
-#[derive(Clone, Copy)]
-pub struct Taken {
-    pub answer: Result<Received, Refusal>,
-    pub table: Table,
-}
-
 // What becomes of an acknowledgement: the send counter raised, or kept under another status than 00h; or refused.
 #[derive(Clone, Copy)]
 pub enum Confirmed {
     Raised,
     Kept,
-}
-
-#[derive(Clone, Copy)]
-pub struct Settled {
-    pub answer: Result<Confirmed, Refusal>,
-    pub table: Table,
 }
 
 // A request arrives on a channel: its acknowledgement goes to the front of the room.
@@ -56,31 +42,28 @@ pub fn receive_on(channel: Channel, octets: &[u8], room: &mut [u8]) -> Result<Re
 }
 
 // A request arrives on the channel that it names.
-pub fn receive(table: Table, octets: &[u8], room: &mut [u8]) -> Taken
-    ensures { Took table.channels octets.now room.old result.answer result.table.channels room.new }
+pub fn receive(table: &mut Table, octets: &[u8], room: &mut [u8]) -> Result<Received, Refusal>
+    ensures { Took table.old.channels octets.now room.old result table.new.channels room.new }
 {
-    let before = table.channels;
     let number = octets::octet(octets, 7);
-    let channel = channels::channel_at(before, number);
+    let channel = table.channel_at(number);
     let answer = receive_on(channel, octets, room);
-    let after = receiving::channel_after(answer, channel);
-    let channels = channels::put(before, number, after);
-    let table = Table { channels };
-    Taken { answer, table }
+    *table = table.put(number, receiving::channel_after(answer, channel));
+    answer
 }
 
 // The cEMI message of a request that was delivered, as a part of its octets; empty otherwise.
 pub fn message(answer: Result<Received, Refusal>, octets: &[u8]) -> &[u8]
     ensures { PartAt octets.entry result (delivered_at answer octets.now) (delivered_message answer octets.now) }
 {
-    match answer {
-        Ok(Received::Delivered(request)) => { tunnelling::message(Ok(request), octets) }
-        Ok(Received::Again) => &octets[..0],
-        Err(_) => &octets[..0],
-    }
+    let Ok(Received::Delivered(request)) = answer else {
+        return &octets[..0];
+    };
+    tunnelling::message(Ok(request), octets)
 }
 
 // A request goes out on a channel of this number, with its send counter, at the front of the room.
+#[tactic(auto, unfolding(crate::specs::Sending::sent_by, frame::specs::Writing::written))]
 pub fn send_on(
     channel: Channel,
     number: u8,
@@ -90,30 +73,26 @@ pub fn send_on(
 ) -> Result<usize, Refusal>
     ensures { SentOn channel number message payload.now room.old result room.new }
 {
-    if cemi::in_range(Codes::All, message, payload.len()) {
-        if channel.opened {
-            tunnelling::write_request(number, channel.send, message, payload, room)
-        } else {
-            Err(Refusal::NotOpen)
-        }
-    } else {
-        Err(Refusal::OutOfRange)
+    if !cemi::in_range(Codes::All, message, payload.len()) {
+        return Err(Refusal::OutOfRange);
     }
+    if !channel.opened {
+        return Err(Refusal::NotOpen);
+    }
+    tunnelling::write_request(number, channel.send, message, payload, room)
 }
 
 // A request goes out on the channel of a number; the table stays.
 pub fn send(
-    table: Table,
+    table: &Table,
     number: u8,
     message: Message,
     payload: &[u8],
     room: &mut [u8],
 ) -> Result<usize, Refusal>
-    ensures { Sent table.channels number message payload.now room.old result room.new }
+    ensures { Sent table.now.channels number message payload.now room.old result room.new }
 {
-    let channels = table.channels;
-    let channel = channels::channel_at(channels, number);
-    send_on(channel, number, message, payload, room)
+    send_on(table.channel_at(number), number, message, payload, room)
 }
 
 // An acknowledgement arrives on a channel.
@@ -125,15 +104,12 @@ pub fn confirm_on(channel: Channel, octets: &[u8]) -> Result<Confirmed, Refusal>
 }
 
 // An acknowledgement arrives on the channel that it names.
-pub fn confirm(table: Table, octets: &[u8]) -> Settled
-    ensures { Called (confirming octets.now) table.channels result.answer result.table.channels }
+pub fn confirm(table: &mut Table, octets: &[u8]) -> Result<Confirmed, Refusal>
+    ensures { Called (confirming octets.now) table.old.channels result table.new.channels }
 {
-    let before = table.channels;
     let number = octets::octet(octets, 7);
-    let channel = channels::channel_at(before, number);
+    let channel = table.channel_at(number);
     let answer = confirm_on(channel, octets);
-    let after = confirming::channel_confirmed(answer, channel);
-    let channels = channels::put(before, number, after);
-    let table = Table { channels };
-    Settled { answer, table }
+    *table = table.put(number, confirming::channel_confirmed(answer, channel));
+    answer
 }

@@ -8,16 +8,16 @@ use crate::Received;
 use cemi::Codes;
 use channels::Channel;
 use frame::Refusal;
-use tunnelling::{Acknowledgement, Request};
+use tunnelling::{Acknowledgement, Request, TUNNELLING_REQUEST};
 
-const TUNNELLING_REQUEST: u16 = 0x0420;
-
+#[tactic(auto, unfolding(crate::specs::Receiving::is_expected))]
 fn is_expected(channel: Channel, octets: &[u8]) -> bool
     ensures { result ≡ is_expected channel octets.now }
 {
     octets::octet(octets, 8) == channel.receive
 }
 
+#[tactic(auto, unfolding(crate::specs::Receiving::is_behind))]
 fn is_behind(channel: Channel, octets: &[u8]) -> bool
     ensures { result ≡ is_behind channel octets.now }
 {
@@ -25,44 +25,38 @@ fn is_behind(channel: Channel, octets: &[u8]) -> bool
 }
 
 // From cEMI's tests on.
+#[tactic(auto, unfolding(crate::specs::Stages::received_message))]
 fn received_message(expected: bool, octets: &[u8]) -> Result<Received, Refusal>
     ensures { result ≡ received_message expected octets.now }
 {
     if octets.len() < 10 {
         return Err(Refusal::TooFew);
     }
-    let read = cemi::read(Codes::All, &octets[10..]);
-    match read {
-        Err(refusal) => Err(refusal),
-        Ok(message) => {
-            if expected {
-                Ok(Received::Delivered(Request {
-                    channel: octets::octet(octets, 7),
-                    counter: octets::octet(octets, 8),
-                    message,
-                }))
-            } else {
-                Ok(Received::Again)
-            }
-        }
+    let message = cemi::read(Codes::All, &octets[10..])?;
+    if expected {
+        Ok(Received::Delivered(Request {
+            channel: octets::octet(octets, 7),
+            counter: octets::octet(octets, 8),
+            message,
+        }))
+    } else {
+        Ok(Received::Again)
     }
 }
 
 // From the channel's tests on.
+#[tactic(auto, unfolding(crate::specs::Stages::received_behind, crate::specs::Stages::received_message))]
 fn received_behind(channel: Channel, octets: &[u8]) -> Result<Received, Refusal>
     ensures { result ≡ received_behind channel octets.now }
 {
-    if channel.opened {
-        let expected = is_expected(channel, octets);
-        let known = expected | is_behind(channel, octets);
-        if known {
-            received_message(expected, octets)
-        } else {
-            Err(Refusal::OtherCounter)
-        }
-    } else {
-        Err(Refusal::NotOpen)
+    if !channel.opened {
+        return Err(Refusal::NotOpen);
     }
+    let expected = is_expected(channel, octets);
+    if !expected && !is_behind(channel, octets) {
+        return Err(Refusal::OtherCounter);
+    }
+    received_message(expected, octets)
 }
 
 pub(crate) fn received(channel: Channel, octets: &[u8], room: usize) -> Result<Received, Refusal>
@@ -78,13 +72,10 @@ pub(crate) fn received(channel: Channel, octets: &[u8], room: usize) -> Result<R
 pub(crate) fn channel_after(answer: Result<Received, Refusal>, channel: Channel) -> Channel
     ensures { result ≡ channel_after answer channel }
 {
-    match answer {
-        Ok(Received::Delivered(_)) => {
-            let receive = channels::raised(channel.receive);
-            channels::counted(channel, receive, channel.send)
-        }
-        Ok(Received::Again) => channel,
-        Err(_) => channel,
+    if let Ok(Received::Delivered(_)) = answer {
+        channel.counted(channels::raised(channel.receive), channel.send)
+    } else {
+        channel
     }
 }
 
@@ -97,6 +88,7 @@ fn acknowledge(octets: &[u8], room: &mut [u8])
         counter: octets::octet(octets, 8),
         status: 0,
     };
+    // Where the room is below 10 octets, `received` has refused the request before.
     let _ = tunnelling::write_acknowledgement(acknowledgement, room);
 }
 
@@ -105,8 +97,7 @@ pub(crate) fn send_back(answer: Result<Received, Refusal>, octets: &[u8], room: 
     ensures { room.new ≡ laid (sent_back answer octets.now) 0 room.old }
 {
     match answer {
-        Ok(Received::Delivered(_)) => acknowledge(octets, room),
-        Ok(Received::Again) => acknowledge(octets, room),
+        Ok(Received::Delivered(_) | Received::Again) => acknowledge(octets, room),
         Err(_) => {}
     }
 }

@@ -21,12 +21,11 @@ impl fmt::Display for SentText<'_> {
 // What came of a request, and the acknowledgement that the room has.
 fn receive(out: &impl Print, table: &mut Table, given: &[u8]) -> io::Result<()> {
     let mut room = [0; 10];
-    let taken = exchange::receive(*table, given, &mut room);
-    *table = taken.table;
+    let answer = exchange::receive(table, given, &mut room);
     let sent = SentText(&room);
-    match taken.answer {
+    match answer {
         Ok(Received::Delivered(request)) => {
-            let octets = exchange::message(taken.answer, given);
+            let octets = exchange::message(answer, given);
             let message = reads::message_text(request.message, octets);
             print!(out; "delivered {message} {sent}")
         }
@@ -36,7 +35,7 @@ fn receive(out: &impl Print, table: &mut Table, given: &[u8]) -> io::Result<()> 
 }
 
 // The channel, and behind it the message that is to go out on it.
-fn send<'a>(table: Table, given: &[u8], room: &'a mut [u8]) -> Result<SentText<'a>, Refusal> {
+fn send<'a>(table: &Table, given: &[u8], room: &'a mut [u8]) -> Result<SentText<'a>, Refusal> {
     let channel = octets::octet(given, 0);
     let octets = given.get(1..).unwrap_or_default();
     let message = cemi::read(Codes::All, octets)?;
@@ -46,9 +45,7 @@ fn send<'a>(table: Table, given: &[u8], room: &'a mut [u8]) -> Result<SentText<'
 }
 
 fn confirm(out: &impl Print, table: &mut Table, given: &[u8]) -> io::Result<()> {
-    let settled = exchange::confirm(*table, given);
-    *table = settled.table;
-    match settled.answer {
+    match exchange::confirm(table, given) {
         Ok(Confirmed::Raised) => print!(out; "raised"),
         Ok(Confirmed::Kept) => print!(out; "kept"),
         Err(refusal) => text::put_refused(out, refusal),
@@ -62,16 +59,16 @@ fn run_call(out: &impl Print, table: &mut Table, call: &[u8]) -> io::Result<()> 
     };
     match *letter {
         b'r' => receive(out, table, given),
-        b's' => text::put_answer(out, send(*table, given, &mut [0; 273])),
+        b's' => text::put_answer(out, send(table, given, &mut [0; 273])),
         b'c' => confirm(out, table, given),
         _ => Ok(()),
     }
 }
 
 pub(crate) fn run_tunnel(out: &impl Print, numbers: &[u8], calls: Items<'_>) -> io::Result<()> {
-    let mut table = channels::all_closed();
+    let mut table = Table::all_closed();
     for number in numbers {
-        table = channels::opened(table, *number);
+        table = table.opened(*number);
     }
     for (at, call) in calls.enumerate() {
         // What stands between two calls, as in the row.

@@ -14,9 +14,9 @@ ghost use Rattle.tunnelling.specs.Stages.{judge_connection};
 use cemi::{Codes, Message};
 use frame::Refusal;
 
-const TUNNELLING_REQUEST: u16 = 0x0420;
+pub const TUNNELLING_REQUEST: u16 = 0x0420;
 
-const TUNNELLING_ACK: u16 = 0x0421;
+pub const TUNNELLING_ACK: u16 = 0x0421;
 
 #[derive(Clone, Copy)]
 pub struct Request {
