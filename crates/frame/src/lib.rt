@@ -8,7 +8,7 @@ ghost use Rattle.frame.specs.Valid.{in_range};
 
 // "A frame's meaning: format, repeat flag, priority, source, AT, destination, hop count, payload".
 // The payload is handed out beside it, as a part of the caller's octets.
-#[derive(Clone, Copy)]
+#[derive(Clone, Copy, PartialEq, Eq, Debug)]
 pub struct Meaning {
     pub extended: bool,
     // The repeat flag as its bit stands: set in a first sending, and in a cEMI request that asks for repetitions.
@@ -20,63 +20,39 @@ pub struct Meaning {
     pub count: u8,
 }
 
-// The rows of document 01's table, with document 02's behind them, in the order of their numbers.
-#[derive(Clone, Copy)]
+// The rows of document 01's table, with document 02's behind them, each with its number; 22 is R-7's.
+#[derive(Clone, Copy, PartialEq, Eq, Debug)]
 pub enum Refusal {
-    TooFew,
-    NotData,
-    OtherFormat,
-    Escape,
-    LeftOver,
-    WrongCheck,
-    OtherCode,
-    InformationEscape,
-    LongStandard,
-    OtherHeader,
-    OtherService,
-    OtherLength,
-    SmallRoom,
-    OutOfRange,
-    WrongSetting,
-    WrongRecord,
-    LineTwice,
-    NoTable,
-    OtherConnection,
-    NotOpen,
-    OtherCounter,
-    Invalid,
-    PastTotal,
+    TooFew = 1,
+    NotData = 2,
+    OtherFormat = 3,
+    Escape = 4,
+    LeftOver = 5,
+    WrongCheck = 6,
+    OtherCode = 7,
+    InformationEscape = 8,
+    LongStandard = 9,
+    OtherHeader = 10,
+    OtherService = 11,
+    OtherLength = 12,
+    SmallRoom = 13,
+    OutOfRange = 14,
+    WrongSetting = 15,
+    WrongRecord = 16,
+    LineTwice = 17,
+    NoTable = 18,
+    OtherConnection = 19,
+    NotOpen = 20,
+    OtherCounter = 21,
+    Invalid = 23,
+    PastTotal = 24,
 }
 
 impl Refusal {
     pub fn number(self) -> u8
         ensures { result ≡ number self }
     {
-        match self {
-            Refusal::TooFew => 1,
-            Refusal::NotData => 2,
-            Refusal::OtherFormat => 3,
-            Refusal::Escape => 4,
-            Refusal::LeftOver => 5,
-            Refusal::WrongCheck => 6,
-            Refusal::OtherCode => 7,
-            Refusal::InformationEscape => 8,
-            Refusal::LongStandard => 9,
-            Refusal::OtherHeader => 10,
-            Refusal::OtherService => 11,
-            Refusal::OtherLength => 12,
-            Refusal::SmallRoom => 13,
-            Refusal::OutOfRange => 14,
-            Refusal::WrongSetting => 15,
-            Refusal::WrongRecord => 16,
-            Refusal::LineTwice => 17,
-            Refusal::NoTable => 18,
-            Refusal::OtherConnection => 19,
-            Refusal::NotOpen => 20,
-            Refusal::OtherCounter => 21,
-            Refusal::Invalid => 23,
-            Refusal::PastTotal => 24,
-        }
+        self as u8
     }
 }
 
