@@ -200,7 +200,7 @@ stopped-there st site q w a line n =
       passed = s.stops.0;
       lasting = (lasts-iff q.count (length s.ahead)).0 (rw j at s.stops.1.0);
       stopped = rw j at s.stops.1.1;
-      told = ap explanation_numbered (explained st site q w a line ∙ x.1.0 ∙ ap (Ok (Some (s.told ∙ ap (stop_of st site q s.here) j))));
+      told = ap explanation_numbered (explained st site q w a line ∙ x.1.0 ∙ ap (λ z. Ok (Some z)) (s.told ∙ ap (stop_of st site q s.here) j));
     }
 
 -- nothing is left out here either
