@@ -66,10 +66,8 @@ fn run_call(out: &impl Print, table: &mut Table, call: &[u8]) -> io::Result<()> 
 }
 
 pub(crate) fn run_tunnel(out: &impl Print, numbers: &[u8], calls: Items<'_>) -> io::Result<()> {
-    let mut table = Table::all_closed();
-    for number in numbers {
-        table = table.opened(*number);
-    }
+    let closed = Table::all_closed();
+    let mut table = numbers.iter().copied().fold(closed, Table::opened);
     for (at, call) in calls.enumerate() {
         // What stands between two calls, as in the row.
         if 0 < at {
