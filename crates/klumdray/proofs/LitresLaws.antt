@@ -50,17 +50,14 @@ inside-adds : (block : List ℕ) (code : ℕ) → is_total block && ltb code 655
 unfolding added_through
 inside-adds block code right = rw right
 
-pub added-fit : (block : List ℕ) (code : ℕ) {block' : List ℕ} {a : Result ℤ Refusal} {t : ℤ} {c answer : ℕ} → is_total block && ltb code 65536 ≡ true
-    → t ≡ total_in block → c ≡ code % 65536 → a ≡ add_to t c → block' ≡ sum_laid a block → answer ≡ added_number a
+pub added-fit : (block : List ℕ) (code : ℕ) {block' : List ℕ} {a : Result ℤ Refusal} {t : ℤ} {answer : ℕ} → is_total block && ltb code 65536 ≡ true
+    → t ≡ total_in block → a ≡ add_to t code → block' ≡ sum_laid a block → answer ≡ added_number a
     → AddedThrough block code answer block'
-added-fit block code {a = a} {c = c} right et ec ea eb en =
-    let fits = and-true (is_total block) (ltb code 65536) right in
-    let small : code < 65536 = ltb-true code 65536 fits.1 in
-    let same : code % 65536 ≡ code = omega arith in
-    let e : a ≡ added_through block code = ea ∙ ap (λ (z : ℤ). add_to z c) et ∙ ap (add_to (total_in block)) (ec ∙ same) ∙ sym (inside-adds block code right) in
+added-fit block code {a = a} right et ea eb en =
+    let e : a ≡ added_through block code = ea ∙ ap (λ (z : ℤ). add_to z code) et ∙ sym (inside-adds block code right) in
     record {
       answers = en ∙ ap added_number e;
-      counted = eb ∙ sum_laid-is_block a block (eqb-true (length block) 8 fits.0) ∙ ap (λ (x : Result ℤ Refusal). block_added x block) e;
+      counted = eb ∙ sum_laid-is_block a block (eqb-true (length block) 8 (and-true (is_total block) (ltb code 65536) right).0) ∙ ap (λ (x : Result ℤ Refusal). block_added x block) e;
     }
 
 inside-adds-not : (block : List ℕ) (code : ℕ) → is_total block && ltb code 65536 ≡ false → added_through block code ≡ Err OutOfRange

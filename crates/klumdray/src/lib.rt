@@ -354,10 +354,9 @@ pub fn klumdray_why<'a>(
 pub fn klumdray_float_value(code: u32) -> u64
     ensures { result ≡ value_number (value_given code) }
 {
-    if code < 65536 {
-        litres::of_value(leak::read(numbers::word_of(code)))
-    } else {
-        14
+    match u16::try_from(code) {
+        Ok(code) => litres::of_value(leak::read(code)),
+        Err(_) => Refusal::OutOfRange.number() as u64,
     }
 }
 
@@ -385,11 +384,11 @@ pub fn klumdray_total_add(total: &mut [u8], code: u32) -> u32
     let right = (total.len() == 8) & (code < 65536);
     if right {
         let held = litres::total_in(total);
-        let added = leak::add(held, numbers::word_of(code));
+        let added = leak::add(held, code as u16);
         litres::put_sum(added, total);
         litres::of_added(added)
     } else {
-        14
+        Refusal::OutOfRange.number() as u32
     }
 }
 

@@ -1,10 +1,11 @@
--- The octets of the four fields, laid at the front of the block.
+-- The eight octets of the bits, laid at the front of the block.
 use mir.Facts.{to_z-of_z}
 use Rattle.klumdray.specs.Litres.{total_octets}
+use Rattle.klumdray.proofs.SignedBits.{be_octets}
 use Rattle.klumdray.proofs.litres.put_total.Goals as goal
 
 pub returns : goal.returns
 unfolding total_octets
 returns c =
-    let bits = rw (to_z-of_z c.ranges.total) at c.bits_of-bits.ensures in
-    rw (← bits, ← c.high_octet.ensures, ← c.low_octet.ensures, ← c.high_octet-2.ensures, ← c.low_octet-2.ensures, ← c.high_octet-3.ensures, ← c.low_octet-3.ensures, ← c.high_octet-4.ensures, ← c.low_octet-4.ensures) c.lay.ensures
+    let bits = rw (to_z-of_z c.ranges.total) at c.bits_of.ensures in
+    rw (← bits, ← be_octets c.bits_of.result c.bits_of.type_inv, ← c.to_be_bytes-octets.ensures) c.lay.ensures

@@ -1,8 +1,0 @@
--- Each arm knows its case of the code.
-use Rattle.klumdray.proofs.litres.of_coded.Goals as goal
-
-pub returns-in-Ok : goal.returns-in-Ok
-returns-in-Ok c = rw c.in-Ok.is
-
-pub returns-in-Err : goal.returns-in-Err
-returns-in-Err c = rw c.in-Err.is c.number.ensures
