@@ -40,6 +40,12 @@ def crates():
     return names
 
 
+def with_edits():
+    """The libraries, and the crate for C, whose source tools/make-surface writes: it has wrong programs, and no
+    contract of its own."""
+    return crates() + ["klumdray_c"]
+
+
 def without_comments(text):
     return re.sub(r"//[^\n]*|/\*.*?\*/", "", text, flags=re.S)
 

@@ -20,8 +20,13 @@ PARTS = ("src", "specs", "proofs")
 
 @functools.cache
 def below(crate):
-    """The crates of this repository that a crate uses, by the line of crates.txt."""
-    return [name for name in lines()[crate].partition(":")[2].split() if name in lines()]
+    """The crates of this repository that a crate uses, by its line of crates.txt and the lines of those, lowest first."""
+    found, todo = set(), [crate]
+    while todo:
+        new = set(lines()[todo.pop()].partition(":")[2].split()) & lines().keys() - found
+        found |= new
+        todo += new
+    return [name for name in lines() if name in found]
 
 
 @functools.cache
