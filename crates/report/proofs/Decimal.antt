@@ -30,6 +30,9 @@ pub decimal-more : (n : ℕ) → 10 ≤ n → decimal n ≡ decimal (n / 10) ++ 
 unfolding decimal
 decimal-more n h = rw (le-ltb n 10 h) (ap (λ (s : List ℕ). s ++ digit (n % 10)) (decimal-by n (suc (n / 10)) (n / 10) (omega arith) (omega arith)))
 
+pub fits-one : (n at : ℕ) (room : List ℕ) → n < 10 → Fits (decimal n) at room → Fits (digit (n % 10)) at room
+fits-one n at room h f = subst (λ (s : List ℕ). Fits s at room) (decimal-one n h) f
+
 pub puts_one : {n at r : ℕ} {room after : List ℕ} → n < 10 → Puts (digit (n % 10)) at room r after → Puts (decimal n) at room r after
 puts_one {n} {at} {r} {room} {after} h x = subst (λ (s : List ℕ). Puts s at room r after) (sym (decimal-one n h)) x
 

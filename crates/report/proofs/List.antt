@@ -1,12 +1,11 @@
 -- The list as text, line by line: the text of the entries that are left, laid over the room as it stands, gives what the whole text laid
 -- over the room as it was gives.
-use Prim.Native.Nat.{ℕ, suc, ◌+◌, ◌-◌, ◌≤◌, ◌<◌}
+use Prim.Native.Nat.{ℕ, ◌+◌, ◌≤◌, ◌<◌}
 use mathlib.Core.List.{List, [], ◌∷◌, ◌++◌, append-nil}
 use mathlib.Core.Path.{◌≡◌, refl, sym, ap, ◌∙◌, subst}
 use native.Mathlib.Omega.{arith}
-use lib.ListN.{length, get_or, drop, length-append, take-append-drop, length-drop}
+use lib.ListN.{length, get_or, length-append, take-append-drop}
 use Rattle.octets.proofs.Room.{laid-fits}
-use Rattle.octets.proofs.Split.{firsts, firsts-drop}
 use Rattle.octets.specs.Room.{laid}
 use Rattle.octets.proofs.Room.{laid_then}
 use Rattle.report.proofs.Puts.{fits-first, fits-then}
@@ -24,50 +23,51 @@ laid_none at room h =
     let e : at + 0 ≡ at = omega arith in
     laid-fits [] at room (omega arith) ∙ rw (append-nil, e) (take-append-drop at room)
 
--- the entry at an index, as its line
-abbrev entry_text : List ℕ → ℕ → List ℕ
-entry_text list from = line_text (get_or list from 0) (get_or list (from + 1) 0) (get_or list (from + 2) 0)
+-- the text of the next entry and of those behind it
+list-next : (entry rest : List ℕ) → length entry ≡ 3
+    → list_text (entry ++ rest) ≡ line_text (get_or entry 0 0) (get_or entry 1 0) (get_or entry 2 0) ++ list_text rest
+list-next [] rest h = absurd (omega arith)
+list-next (a ∷ []) rest h = absurd (omega arith)
+list-next (a ∷ b ∷ []) rest h = absurd (omega arith)
+list-next (a ∷ b ∷ c ∷ []) rest h = refl
+list-next (a ∷ b ∷ c ∷ d ∷ s) rest h = absurd (omega arith)
 
-list-from : (list : List ℕ) (from : ℕ) → 3 ≤ length list - from → list_text (drop from list) ≡ entry_text list from ++ list_text (drop (from + 3) list)
-list-from list from h =
-    let a : suc from ≡ from + 1 = omega arith in
-    let b : suc (from + 1) ≡ from + 2 = omega arith in
-    let e : drop from list ≡ firsts 3 from list ++ drop (from + 3) list = firsts-drop 3 from list (omega arith) in
-    ap list_text e ∙ rw (a, b)
+-- the entries that are left, of a list put from an index of a room on
+pub record Rest (list left : List ℕ) (at₀ : ℕ) (room₀ : List ℕ) (at : ℕ) (room : List ℕ) : Type 0 where
+  pub fits : Fits (list_text left) at room
+  pub ends : at + length (list_text left) ≡ at₀ + length (list_text list)
+  pub rest : laid (list_text left) at room ≡ laid (list_text list) at₀ room₀
 
-pub record Rest (list room₀ room : List ℕ) (at from : ℕ) : Type 0 where
-  pub within : from ≤ length list
-  pub same : length room ≡ length room₀
-  pub fits : Fits (list_text (drop from list)) at room
-  pub ends : at + length (list_text (drop from list)) ≡ length (list_text list)
-  pub rest : laid (list_text (drop from list)) at room ≡ laid (list_text list) 0 room₀
+pub rest-none : {list : List ℕ} {at : ℕ} {room : List ℕ} → Fits (list_text list) at room → Rest list list at room at room
+rest-none h = record { fits = h; ends = refl; rest = refl }
 
-pub rest-none : (list room : List ℕ) → Fits (list_text list) 0 room → Rest list room room 0 0
-rest-none list room h = record { within = omega arith; same = refl; fits = h; ends = omega arith; rest = refl }
+module _ {list left : List ℕ} {at₀ : ℕ} {room₀ : List ℕ} {at : ℕ} {room : List ℕ} (x : Rest list left at₀ room₀ at room) where
+  module _ (entry behind : List ℕ) (e : left ≡ entry ++ behind) (h : length entry ≡ 3) where
+    abbrev text : List ℕ
+    text = line_text (get_or entry 0 0) (get_or entry 1 0) (get_or entry 2 0)
 
-module _ {list room₀ room : List ℕ} {at from : ℕ} (x : Rest list room₀ room at from) where
-  module _ (h : 3 ≤ length list - from) where
-    fits_both : Fits (entry_text list from ++ list_text (drop (from + 3) list)) at room
-    fits_both = subst (λ (s : List ℕ). Fits s at room) (list-from list from h) x.fits
+    next : list_text left ≡ text ++ list_text behind
+    next = ap list_text e ∙ list-next entry behind h
 
-    pub fits-entry : Fits (entry_text list from) at room
-    fits-entry = fits-first (entry_text list from) (list_text (drop (from + 3) list)) at room fits_both
+    fits_both : Fits (text ++ list_text behind) at room
+    fits_both = subst (λ (s : List ℕ). Fits s at room) next x.fits
 
-    pub rest_more : {behind : ℕ} {after : List ℕ} → length after ≡ length room → Puts (entry_text list from) at room behind after → Rest list room₀ after behind (from + 3)
-    rest_more {behind} {after} k y =
-        let e = list-from list from h in
+    pub fits-entry : Fits text at room
+    fits-entry = fits-first text (list_text behind) at room fits_both
+
+    pub rest_more : {after : ℕ} {room' : List ℕ} → Puts text at room after room' → Rest list behind at₀ room₀ after room'
+    rest_more y =
         record {
-          within = omega arith;
-          same = k ∙ x.same;
-          fits = fits-then (entry_text list from) (list_text (drop (from + 3) list)) at room fits_both y;
-          ends = rw (y.ends, ← x.ends, e, length-append) (omega arith);
-          rest = rw (y.ends, y.put) (laid_then (entry_text list from) (list_text (drop (from + 3) list)) at room fits_both ∙ rw e at x.rest);
+          fits = fits-then text (list_text behind) at room fits_both y;
+          ends = rw (y.ends, ← x.ends, next, length-append) (omega arith);
+          rest = rw (y.ends, y.put) (laid_then text (list_text behind) at room fits_both ∙ rw next at x.rest);
         }
 
-  pub rest_all : length list - from < 3 → Puts (list_text list) 0 room₀ at room
-  rest_all h =
-      let e : list_text (drop from list) ≡ [] = short-list (drop from list) (rw length-drop h) in
-      let f : at + length (list_text (drop from list)) ≤ length room = x.fits in
-      let n : at + length (list_text (drop from list)) ≡ length (list_text list) = x.ends in
-      let r : laid (list_text (drop from list)) at room ≡ laid (list_text list) 0 room₀ = x.rest in
-      record { fits = omega (arith, x.same); ends = omega (arith, rw e at n); put = sym (laid_none at room (omega arith)) ∙ rw e at r }
+  pub rest_all : Fits (list_text list) at₀ room₀ → length left < 3 → Puts (list_text list) at₀ room₀ at room
+  rest_all f h =
+      let e : list_text left ≡ [] = short-list left h in
+      record {
+        fits = f;
+        ends = omega (arith, rw e at x.ends);
+        put = sym (laid_none at room (omega (arith, rw e at x.fits))) ∙ rw e at x.rest;
+      }

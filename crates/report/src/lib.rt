@@ -13,6 +13,7 @@ ghost use Rattle.report.specs.Report.{query_in, query_tests, answer_text, report
 
 use frame::Refusal;
 use site::Stores;
+use text::Writer;
 use tracer::Query;
 
 // "On refusal it writes `refused N`."
@@ -20,15 +21,19 @@ fn put_refused(refusal: Refusal, room: &mut [u8]) -> usize
     requires { 8192 ≤ length room.old }
     ensures { Puts (told_line (ascii "refused ") (number refusal)) 0 room.old result room.new }
 {
-    text::put_told_line(b"refused ", refusal.number() as usize, 0, room)
+    let mut writer = Writer::new(room);
+    writer.put_told_line(b"refused ", refusal.number() as usize);
+    writer.at
 }
 
 fn put_listed(list: &[u8], forwardings: usize, room: &mut [u8]) -> usize
     requires { (length list.now ≤ 768) × (8192 ≤ length room.old) }
     ensures { Puts (list_text list.now ++ told_line (ascii "forwardings ") forwardings) 0 room.old result room.new }
 {
-    let behind = text::put_list(list, room);
-    text::put_told_line(b"forwardings ", forwardings, behind, room)
+    let mut writer = Writer::new(room);
+    writer.put_list(list);
+    writer.put_told_line(b"forwardings ", forwardings);
+    writer.at
 }
 
 // "The program reads line, kind, destination (2), count"

@@ -1,5 +1,4 @@
 -- The room has any refusal's line.
--- LOOK: 4 arguments for 3 needs
 use native.Mathlib.Omega.{arith}
 use Rattle.frame.proofs.Numbers.{number-listed}
 use Rattle.report.proofs.ReportLaws.{refused-fits}
@@ -7,4 +6,5 @@ use Rattle.report.proofs.put_refused.Goals as goal
 
 pub put_told_line-requires : goal.put_told_line-requires
 put_told_line-requires c =
-    refused-fits _ c.args.room.now (omega (arith, (number-listed c.args.refusal).1)) c.requires
+    let w = c.new-writer.ensures in
+    rw (w.at, w.same, c.number.ensures) (refused-fits _ c.args.room.now (omega (arith, (number-listed c.args.refusal).1)) c.requires)
