@@ -1,10 +1,11 @@
 -- A listed line's text piece by piece: each piece has its place behind those before it, and all of them are the line.
 use Prim.Native.Nat.{ℕ, ◌/◌, ◌%◌}
 use mathlib.Core.List.{List, ◌++◌}
-use Rattle.report.proofs.Puts.{fits-first, fits-then, puts_then}
+use Rattle.report.proofs.Puts.{has-first, has-then, wrote-then}
 use Rattle.report.specs.Ascii.{ascii}
 use Rattle.report.specs.Text.{decimal, told, line_text}
-use Rattle.report.specs.Stages.{Puts, Fits}
+use Rattle.report.specs.declared.text.Writer.{Writer}
+use Rattle.report.specs.Stages.{HasPlace, Wrote}
 
 abbrev named : ℕ → List ℕ
 named line = decimal (line / 16) ++ told (ascii ".") (line % 16)
@@ -15,46 +16,46 @@ counted line count = named line ++ told (ascii " count ") count
 abbrev crossing : ℕ → ℕ → ℕ → List ℕ
 crossing line count crossed = counted line count ++ told (ascii " crossed ") crossed
 
-module _ (line count crossed at : ℕ) (room : List ℕ) (h : Fits (line_text line count crossed) at room) where
-  fits-crossing : Fits (crossing line count crossed) at room
+module _ (line count crossed : ℕ) (w : Writer) (h : HasPlace w (line_text line count crossed)) where
+  has-crossing : HasPlace w (crossing line count crossed)
   unfolding line_text
-  fits-crossing = fits-first (crossing line count crossed) (ascii "\n") at room h
+  has-crossing = has-first (crossing line count crossed) (ascii "\n") w h
 
-  fits-counted : Fits (counted line count) at room
-  fits-counted = fits-first (counted line count) (told (ascii " crossed ") crossed) at room fits-crossing
+  has-counted : HasPlace w (counted line count)
+  has-counted = has-first (counted line count) (told (ascii " crossed ") crossed) w has-crossing
 
-  fits-named : Fits (named line) at room
-  fits-named = fits-first (named line) (told (ascii " count ") count) at room fits-counted
+  has-named : HasPlace w (named line)
+  has-named = has-first (named line) (told (ascii " count ") count) w has-counted
 
-  pub fits-area : Fits (decimal (line / 16)) at room
-  fits-area = fits-first (decimal (line / 16)) (told (ascii ".") (line % 16)) at room fits-named
+  pub has-area : HasPlace w (decimal (line / 16))
+  has-area = has-first (decimal (line / 16)) (told (ascii ".") (line % 16)) w has-named
 
-  module _ {r₁ : ℕ} {room₁ : List ℕ} (x₁ : Puts (decimal (line / 16)) at room r₁ room₁) where
-    pub fits-point : Fits (told (ascii ".") (line % 16)) r₁ room₁
-    fits-point = fits-then _ _ at room fits-named x₁
+  module _ {w₁ : Writer} (x₁ : Wrote w (decimal (line / 16)) w₁) where
+    pub has-point : HasPlace w₁ (told (ascii ".") (line % 16))
+    has-point = has-then _ _ w has-named x₁
 
-    module _ {r₂ : ℕ} {room₂ : List ℕ} (x₂ : Puts (told (ascii ".") (line % 16)) r₁ room₁ r₂ room₂) where
-      put-named : Puts (named line) at room r₂ room₂
-      put-named = puts_then _ _ at room fits-named x₁ x₂
+    module _ {w₂ : Writer} (x₂ : Wrote w₁ (told (ascii ".") (line % 16)) w₂) where
+      wrote-named : Wrote w (named line) w₂
+      wrote-named = wrote-then _ _ w has-named x₁ x₂
 
-      pub fits_count : Fits (told (ascii " count ") count) r₂ room₂
-      fits_count = fits-then _ _ at room fits-counted put-named
+      pub has_count : HasPlace w₂ (told (ascii " count ") count)
+      has_count = has-then _ _ w has-counted wrote-named
 
-      module _ {r₃ : ℕ} {room₃ : List ℕ} (x₃ : Puts (told (ascii " count ") count) r₂ room₂ r₃ room₃) where
-        put-counted : Puts (counted line count) at room r₃ room₃
-        put-counted = puts_then _ _ at room fits-counted put-named x₃
+      module _ {w₃ : Writer} (x₃ : Wrote w₂ (told (ascii " count ") count) w₃) where
+        wrote-counted : Wrote w (counted line count) w₃
+        wrote-counted = wrote-then _ _ w has-counted wrote-named x₃
 
-        pub fits-crossed : Fits (told (ascii " crossed ") crossed) r₃ room₃
-        fits-crossed = fits-then _ _ at room fits-crossing put-counted
+        pub has-crossed : HasPlace w₃ (told (ascii " crossed ") crossed)
+        has-crossed = has-then _ _ w has-crossing wrote-counted
 
-        module _ {r₄ : ℕ} {room₄ : List ℕ} (x₄ : Puts (told (ascii " crossed ") crossed) r₃ room₃ r₄ room₄) where
-          put-crossing : Puts (crossing line count crossed) at room r₄ room₄
-          put-crossing = puts_then _ _ at room fits-crossing put-counted x₄
+        module _ {w₄ : Writer} (x₄ : Wrote w₃ (told (ascii " crossed ") crossed) w₄) where
+          wrote-crossing : Wrote w (crossing line count crossed) w₄
+          wrote-crossing = wrote-then _ _ w has-crossing wrote-counted x₄
 
-          pub fits-end : Fits (ascii "\n") r₄ room₄
+          pub has-end : HasPlace w₄ (ascii "\n")
           unfolding line_text
-          fits-end = fits-then (crossing line count crossed) (ascii "\n") at room h put-crossing
+          has-end = has-then (crossing line count crossed) (ascii "\n") w h wrote-crossing
 
-          pub put-line : {r₅ : ℕ} {room₅ : List ℕ} → Puts (ascii "\n") r₄ room₄ r₅ room₅ → Puts (line_text line count crossed) at room r₅ room₅
+          pub wrote-line : {w₅ : Writer} → Wrote w₄ (ascii "\n") w₅ → Wrote w (line_text line count crossed) w₅
           unfolding line_text
-          put-line x₅ = puts_then (crossing line count crossed) (ascii "\n") at room h put-crossing x₅
+          wrote-line x₅ = wrote-then (crossing line count crossed) (ascii "\n") w h wrote-crossing x₅

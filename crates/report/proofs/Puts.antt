@@ -1,28 +1,46 @@
 -- Two texts put one behind the other are one text put: so each function's pieces are joined from left to right.
 use Prim.Native.Nat.{ℕ, ◌+◌, ◌≤◌}
 use mathlib.Core.List.{List, ◌++◌}
-use mathlib.Core.Path.{◌≡◌, ◌∙◌}
+use mathlib.Core.Path.{◌≡◌, ◌∙◌, subst}
 use native.Mathlib.Omega.{arith}
 use lib.ListN.{length, length-append}
 use Rattle.octets.proofs.Room.{laid-length, laid_then}
-use Rattle.report.specs.Stages.{Puts, Fits}
+use Rattle.report.specs.declared.text.Writer.{Writer}
+use Rattle.report.specs.Stages.{Fits, HasPlace, Puts, Wrote}
 
-module _ (a b : List ℕ) (at : ℕ) (room : List ℕ) (h : Fits (a ++ b) at room) where
-  fits_both : at + (length a + length b) ≤ length room
+module _ (a b : List ℕ) (w : Writer) (h : HasPlace w (a ++ b)) where
+  fits_both : w.at + (length a + length b) ≤ length w.room.now
   fits_both = rw length-append at h
 
-  pub fits-first : Fits a at room
-  fits-first = omega (arith, fits_both)
+  pub has-first : HasPlace w a
+  has-first = omega (arith, fits_both)
 
-  module _ {r₁ : ℕ} {room₁ : List ℕ} (x : Puts a at room r₁ room₁) where
+  module _ {w₁ : Writer} (x : Wrote w a w₁) where
     -- the second text has its place
-    pub fits-then : Fits b r₁ room₁
-    fits-then = rw (x.ends, x.put, laid-length a at room fits-first) (omega (arith, fits_both))
+    pub has-then : HasPlace w₁ b
+    has-then = rw (x.put.ends, x.put.put, laid-length a w.at w.room.now has-first) (omega (arith, fits_both))
 
-    pub puts_then : {r₂ : ℕ} {room₂ : List ℕ} → Puts b r₁ room₁ r₂ room₂ → Puts (a ++ b) at room r₂ room₂
-    puts_then y =
-        record { fits = h; ends = rw (y.ends, x.ends, length-append) (omega arith); put = y.put ∙ rw (x.ends, x.put) (laid_then a b at room h) }
+    pub wrote-then : {w₂ : Writer} → Wrote w₁ b w₂ → Wrote w (a ++ b) w₂
+    wrote-then y =
+        record {
+          lent = y.lent ∙ x.lent;
+          put = record {
+            fits = h;
+            ends = rw (y.put.ends, x.put.ends, length-append) (omega arith);
+            put = y.put.put ∙ rw (x.put.ends, x.put.put) (laid_then a b w.at w.room.now h);
+          };
+        }
 
--- what the room is at the end, by another name of it
-pub puts-left : {text : List ℕ} {at behind : ℕ} {room after left : List ℕ} → Puts text at room behind after → left ≡ after → Puts text at room behind left
-puts-left x e = record { fits = x.fits; ends = x.ends; put = e ∙ x.put }
+pub has-as : {a b : List ℕ} (w : Writer) → a ≡ b → HasPlace w a → HasPlace w b
+has-as w e x = subst (λ (s : List ℕ). HasPlace w s) e x
+
+pub wrote-as : {a b : List ℕ} {w w' : Writer} → a ≡ b → Wrote w a w' → Wrote w b w'
+wrote-as {w = w} {w'} e x = subst (λ (s : List ℕ). Wrote w s w') e x
+
+-- a writer that was made for a room; what the room is at the end, by another name of it
+module _ (w : Writer) {room : List ℕ} (first : w.at ≡ 0) (same : w.room.now ≡ room) where
+  pub made-has : (text : List ℕ) → Fits text 0 room → HasPlace w text
+  made-has text f = rw (first, same) f
+
+  pub made-puts : {text left : List ℕ} {w' : Writer} → Wrote w text w' → left ≡ w'.room.now → Puts text 0 room w'.at left
+  made-puts x e = record { fits = rw (first, same) at x.put.fits; ends = rw first at x.put.ends; put = e ∙ rw (first, same) at x.put.put }

@@ -1,7 +1,7 @@
 // The text, put into a lent room piece by piece.
 ghost use Rattle.std.specs.Prelude.{◌%◌, ◌≡◌};
 ghost use Rattle.report.specs.Text.{digit, decimal, told, told_line, line_text, list_text};
-ghost use Rattle.report.specs.Stages.{Fits, Puts};
+ghost use Rattle.report.specs.Stages.{HasPlace, Wrote};
 
 // A lent room, and the index behind what was put into it.
 #[derive(Drop)]
@@ -20,18 +20,16 @@ impl<'a> Writer<'a> {
     }
 
     fn put(&mut self, text: &[u8])
-        requires { Fits text.now self.old.at self.old.room.now }
-        ensures lent { self.new.room.ghost_name ≡ self.old.room.ghost_name }
-        ensures put { Puts text.now self.old.at self.old.room.now self.new.at self.new.room.now }
+        requires { HasPlace self.old text.now }
+        ensures { Wrote self.old text.now self.new }
     {
         octets::lay(text, self.at, self.room);
         self.at += text.len();
     }
 
     fn put_digit(&mut self, number: usize)
-        requires { Fits (digit (number % 10)) self.old.at self.old.room.now }
-        ensures lent { self.new.room.ghost_name ≡ self.old.room.ghost_name }
-        ensures put { Puts (digit (number % 10)) self.old.at self.old.room.now self.new.at self.new.room.now }
+        requires { HasPlace self.old (digit (number % 10)) }
+        ensures { Wrote self.old (digit (number % 10)) self.new }
     {
         let last = (number % 10) as u8;
         self.put(&[b'0' + last]);
@@ -39,9 +37,8 @@ impl<'a> Writer<'a> {
 
     // The digits before the last are those of the tenth.
     fn put_decimal(&mut self, number: usize)
-        requires { Fits (decimal number) self.old.at self.old.room.now }
-        ensures lent { self.new.room.ghost_name ≡ self.old.room.ghost_name }
-        ensures put { Puts (decimal number) self.old.at self.old.room.now self.new.at self.new.room.now }
+        requires { HasPlace self.old (decimal number) }
+        ensures { Wrote self.old (decimal number) self.new }
     {
         if 10 <= number {
             self.put_decimal(number / 10);
@@ -50,27 +47,24 @@ impl<'a> Writer<'a> {
     }
 
     fn put_told(&mut self, word: &[u8], number: usize)
-        requires { Fits (told word.now number) self.old.at self.old.room.now }
-        ensures lent { self.new.room.ghost_name ≡ self.old.room.ghost_name }
-        ensures put { Puts (told word.now number) self.old.at self.old.room.now self.new.at self.new.room.now }
+        requires { HasPlace self.old (told word.now number) }
+        ensures { Wrote self.old (told word.now number) self.new }
     {
         self.put(word);
         self.put_decimal(number);
     }
 
     pub(crate) fn put_told_line(&mut self, word: &[u8], number: usize)
-        requires { Fits (told_line word.now number) self.old.at self.old.room.now }
-        ensures lent { self.new.room.ghost_name ≡ self.old.room.ghost_name }
-        ensures put { Puts (told_line word.now number) self.old.at self.old.room.now self.new.at self.new.room.now }
+        requires { HasPlace self.old (told_line word.now number) }
+        ensures { Wrote self.old (told_line word.now number) self.new }
     {
         self.put_told(word, number);
         self.put(b"\n");
     }
 
     fn put_line(&mut self, line: u8, count: u8, crossed: u8)
-        requires { Fits (line_text line count crossed) self.old.at self.old.room.now }
-        ensures lent { self.new.room.ghost_name ≡ self.old.room.ghost_name }
-        ensures put { Puts (line_text line count crossed) self.old.at self.old.room.now self.new.at self.new.room.now }
+        requires { HasPlace self.old (line_text line count crossed) }
+        ensures { Wrote self.old (line_text line count crossed) self.new }
     {
         self.put_decimal((line / 16) as usize);
         self.put_told(b".", (line % 16) as usize);
@@ -81,9 +75,8 @@ impl<'a> Writer<'a> {
 
     // Every entry of three octets as a line.
     pub(crate) fn put_list(&mut self, list: &[u8])
-        requires { Fits (list_text list.now) self.old.at self.old.room.now }
-        ensures lent { self.new.room.ghost_name ≡ self.old.room.ghost_name }
-        ensures put { Puts (list_text list.now) self.old.at self.old.room.now self.new.at self.new.room.now }
+        requires { HasPlace self.old (list_text list.now) }
+        ensures { Wrote self.old (list_text list.now) self.new }
     {
         for entry in list.chunks_exact(3) {
             self.put_line(entry[0], entry[1], entry[2]);

@@ -6,21 +6,12 @@ use Rattle.report.proofs.text.Writer.put_list.Goals as goal
 
 pub loop-entry-preserved : goal.loop-entry-preserved
 loop-entry-preserved c =
-    let size = c.in-Some.ensures.steps.0 ∙ c.loop-entry.invariant.1.1.0 in
-    let cut = c.in-Some.ensures.steps.1 in (
-      omega (arith, size),
-      (
-        tt,
-        (
-          size,
-          (
-            c.put_line.ensures.lent ∙ c.loop-entry.invariant.1.1.1.0,
-            rest_more c.loop-entry.invariant.1.1.1.1 c.in-Some.entry.now _ cut.0 (cut.1 ∙ c.loop-entry.invariant.1.1.0) c.put_line.ensures.put,
-          ),
-        ),
-      ),
-    )
+    let left = c.loop-entry.invariant.1.1 in
+    let cut = c.in-Some.ensures.steps in
+    let size = cut.0 ∙ left.0 in
+    (omega (arith, size), (tt, (size, rest_more left.1 c.in-Some.entry.now _ cut.1.0 (cut.1.1 ∙ left.0) c.put_line.ensures)))
 
-pub returns-clause-put : goal.returns-clause-put
-returns-clause-put c =
-    rest_all c.loop-entry.invariant.1.1.1.1 c.requires (omega (arith, c.in-None.ensures.steps.1.0, c.loop-entry.invariant.1.1.0))
+pub returns : goal.returns
+returns c =
+    let left = c.loop-entry.invariant.1.1 in
+    rest_all left.1 c.requires (omega (arith, c.in-None.ensures.steps.1.0, left.0))

@@ -1,16 +1,16 @@
 -- The word, and the number's digits behind it.
-use Rattle.report.proofs.Puts.{fits-first, fits-then, puts_then}
+use Rattle.report.proofs.Puts.{has-first, has-then, wrote-then}
 use Rattle.report.specs.Text.{decimal, told}
 use Rattle.report.proofs.text.Writer.put_told.Goals as goal
 
 pub put-requires : goal.put-requires
 unfolding told
-put-requires c = fits-first c.args.word.now (decimal c.args.number) _ _ c.requires
+put-requires c = has-first c.args.word.now (decimal c.args.number) c.args.self.now c.requires
 
 pub put_decimal-requires : goal.put_decimal-requires
 unfolding told
-put_decimal-requires c = fits-then c.args.word.now (decimal c.args.number) _ _ c.requires c.put.ensures.put
+put_decimal-requires c = has-then c.args.word.now (decimal c.args.number) c.args.self.now c.requires c.put.ensures
 
-pub returns-clause-put : goal.returns-clause-put
+pub returns : goal.returns
 unfolding told
-returns-clause-put c = puts_then _ _ _ _ c.requires c.put.ensures.put c.put_decimal.ensures.put
+returns c = wrote-then _ _ _ c.requires c.put.ensures c.put_decimal.ensures
