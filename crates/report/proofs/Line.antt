@@ -1,9 +1,10 @@
 -- A listed line's text piece by piece: each piece has its place behind those before it, and all of them are the line.
 use Prim.Native.Nat.{ℕ, ◌/◌, ◌%◌}
-use mathlib.Core.List.{List, ◌++◌}
-use Rattle.report.proofs.Puts.{has-first, has-then, wrote-then}
+use mathlib.Core.List.{List, ◌++◌, append_assoc}
+use mathlib.Core.Path.{◌≡◌, sym}
+use Rattle.report.proofs.Puts.{has-first, has-then, has-as, wrote-then, wrote-as}
 use Rattle.report.specs.Ascii.{ascii}
-use Rattle.report.specs.Text.{decimal, told, line_text}
+use Rattle.report.specs.Text.{decimal, told, told_line, line_text}
 use Rattle.report.specs.declared.text.Writer.{Writer}
 use Rattle.report.specs.Stages.{HasPlace, Wrote}
 
@@ -13,16 +14,16 @@ named line = decimal (line / 16) ++ told (ascii ".") (line % 16)
 abbrev counted : ℕ → ℕ → List ℕ
 counted line count = named line ++ told (ascii " count ") count
 
-abbrev crossing : ℕ → ℕ → ℕ → List ℕ
-crossing line count crossed = counted line count ++ told (ascii " crossed ") crossed
+line-is : (line count crossed : ℕ) → line_text line count crossed ≡ counted line count ++ told_line (ascii " crossed ") crossed
+unfolding line_text told_line
+line-is line count crossed = append_assoc (counted line count) (told (ascii " crossed ") crossed) (ascii "\n")
 
 module _ (line count crossed : ℕ) (w : Writer) (h : HasPlace w (line_text line count crossed)) where
-  has-crossing : HasPlace w (crossing line count crossed)
-  unfolding line_text
-  has-crossing = has-first (crossing line count crossed) (ascii "\n") w h
+  has-line : HasPlace w (counted line count ++ told_line (ascii " crossed ") crossed)
+  has-line = has-as w (line-is line count crossed) h
 
   has-counted : HasPlace w (counted line count)
-  has-counted = has-first (counted line count) (told (ascii " crossed ") crossed) w has-crossing
+  has-counted = has-first (counted line count) (told_line (ascii " crossed ") crossed) w has-line
 
   has-named : HasPlace w (named line)
   has-named = has-first (named line) (told (ascii " count ") count) w has-counted
@@ -45,17 +46,8 @@ module _ (line count crossed : ℕ) (w : Writer) (h : HasPlace w (line_text line
         wrote-counted : Wrote w (counted line count) w₃
         wrote-counted = wrote-then _ _ w has-counted wrote-named x₃
 
-        pub has-crossed : HasPlace w₃ (told (ascii " crossed ") crossed)
-        has-crossed = has-then _ _ w has-crossing wrote-counted
+        pub has-crossed : HasPlace w₃ (told_line (ascii " crossed ") crossed)
+        has-crossed = has-then _ _ w has-line wrote-counted
 
-        module _ {w₄ : Writer} (x₄ : Wrote w₃ (told (ascii " crossed ") crossed) w₄) where
-          wrote-crossing : Wrote w (crossing line count crossed) w₄
-          wrote-crossing = wrote-then _ _ w has-crossing wrote-counted x₄
-
-          pub has-end : HasPlace w₄ (ascii "\n")
-          unfolding line_text
-          has-end = has-then (crossing line count crossed) (ascii "\n") w h wrote-crossing
-
-          pub wrote-line : {w₅ : Writer} → Wrote w₄ (ascii "\n") w₅ → Wrote w (line_text line count crossed) w₅
-          unfolding line_text
-          wrote-line x₅ = wrote-then (crossing line count crossed) (ascii "\n") w h wrote-crossing x₅
+        pub wrote-line : {w₄ : Writer} → Wrote w₃ (told_line (ascii " crossed ") crossed) w₄ → Wrote w (line_text line count crossed) w₄
+        wrote-line x₄ = wrote-as (sym (line-is line count crossed)) (wrote-then _ _ w has-line wrote-counted x₄)

@@ -69,8 +69,7 @@ impl<'a> Writer<'a> {
         self.put_decimal((line / 16) as usize);
         self.put_told(b".", (line % 16) as usize);
         self.put_told(b" count ", count as usize);
-        self.put_told(b" crossed ", crossed as usize);
-        self.put(b"\n");
+        self.put_told_line(b" crossed ", crossed as usize);
     }
 
     // Every entry of three octets as a line.
