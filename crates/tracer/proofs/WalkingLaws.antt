@@ -7,7 +7,10 @@ use mathlib.Core.List.{List, [], ◌∷◌, ◌++◌}
 use mathlib.Core.Path.{◌≡◌, refl, sym, ap, ◌∙◌}
 use native.Mathlib.Omega.{arith}
 use Rattle.passing.specs.Passing.{does_pass}
+use denote.Enum.Bare.{sameb}
+use Rattle.passing.specs.contracts.Passage.{the_type}
 use Rattle.passing.specs.declared.Passage.{Passage}
+use Rattle.passing.specs.declared.Passage.TheVariants.{Passes, NotFitted, OwnAddress, Closed, NotBelow, NotAbove, NotInTable, UsedUp}
 use Rattle.frame.proofs.Order.{first-passed, first-refused}
 use Rattle.frame.specs.Order.{first_of, answer_by}
 use Rattle.frame.specs.declared.Refusal.{Refusal}
@@ -31,6 +34,17 @@ not-zero n m e z =
     let f : true ≡ false = sym (on-zero m) ∙ (rw z at e) in
     let y : ◌≡◌ {A = ℕ} 0 1 = cc in
     omega arith
+
+-- being the same as the first of them is letting it pass
+pub same-passes : (p : Passage) → sameb the_type p Passes ≡ does_pass p
+same-passes Passes = refl
+same-passes NotFitted = refl
+same-passes OwnAddress = refl
+same-passes Closed = refl
+same-passes NotBelow = refl
+same-passes NotAbove = refl
+same-passes NotInTable = refl
+same-passes UsedUp = refl
 
 module _ (st : Stores) (site : List ℕ) (q : Query) where
   pub hand-stopped : {w : Result ℕ Stop} (x : Crossing) (stop : Stop) → w ≡ Err stop → Err stop ≡ handed_on st site q w x

@@ -1,6 +1,6 @@
 -- How the tracer works its list out: for the contracts of its private functions. No public contract rests on these definitions.
 -- A telegram on its way: how many lines it has been put on, the starting line being the first; 0 where it does not come.
-use Rattle.std.specs.Prelude.{ℕ, suc, ◌-◌, ◌<◌, Bool, false, cond, ◌&&◌, List, [], ◌∷◌, ◌≡◌, ltb, eqb, length, get_or, Ok}
+use Rattle.std.specs.Prelude.{ℕ, suc, ◌-◌, ◌<◌, Bool, false, cond, ◌&&◌, List, [], ◌∷◌, ◌≡◌, ltb, length, get_or, Ok}
 use Rattle.octets.specs.Room.{over}
 use Rattle.site.specs.Stores.{Stores}
 use Rattle.site.specs.WellFormed.{is_among}

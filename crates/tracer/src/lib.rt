@@ -1,24 +1,23 @@
 // The tracer: which lines of a site a telegram comes to, and why it does not come to another.
 #![tactic(auto)]
 
+mod asked;
 mod lines;
 mod listing;
 mod reaching;
-mod walking;
 
-ghost use Rattle.std.specs.Prelude.{◌≡◌, ◌≤◌, length, Ok};
+ghost use Rattle.std.specs.Prelude.{◌≡◌};
 ghost use Rattle.frame.specs.Order.{first_of};
-ghost use Rattle.site.specs.Starts.{Noted};
 ghost use Rattle.site.specs.Stores.{stores_in};
 ghost use Rattle.tracer.specs.Lines.{main_side};
 ghost use Rattle.tracer.specs.Query.{query_of, hopped_in, on_arrival};
 ghost use Rattle.tracer.specs.Tracing.{asking_tests, DidTrace};
-ghost use Rattle.tracer.specs.Reaching.{DidList};
-ghost use Rattle.tracer.specs.Why.{why_of, answer_why};
+ghost use Rattle.tracer.specs.Why.{answer_why};
 
+use asked::Asked;
 use frame::Refusal;
 use passing::{Address, Passage};
-use site::{Stores, Surveyed};
+use site::Stores;
 
 // What a planner asks: starting line, kind (0 individual, 1 group), destination, count.
 #[derive(Clone, Copy)]
@@ -112,20 +111,6 @@ fn judge(query: Query, room: usize) -> Result<(), Refusal>
     }
 }
 
-// Of a well-formed site, with where each line's record starts.
-fn list<'a>(query: Query, site: &Surveyed<'a>, room: &mut [u8]) -> Traced
-    requires { (768 ≤ length room.old) × Noted site.now.records.now site.now.starts }
-    ensures { DidList (stores_in site.now.stores) site.now.records.now query room.old result room.new }
-{
-    let passing = site.letting(query.address());
-    let arrivals = reaching::spread(&passing, query);
-    let lines = listing::list(&arrivals.lines, query, room);
-    Traced {
-        lines,
-        forwardings: arrivals.forwardings,
-    }
-}
-
 // Lists the lines that a telegram comes to, as a first sending put on the starting line, at the front
 // of the room: three octets for each, in rising order.
 pub fn trace<'a>(
@@ -138,16 +123,11 @@ pub fn trace<'a>(
 {
     judge(query, room.len())?;
     let surveyed = site::survey(site, stores)?;
-    Ok(list(query, &surveyed, room))
-}
-
-fn explain<'a>(query: Query, site: &Surveyed<'a>, line: u8) -> Option<Stop>
-    requires { Noted site.now.records.now site.now.starts }
-    ensures { Ok result ≡ why_of (stores_in site.now.stores) site.now.records.now query line }
-{
-    let sent = Ok(query.count);
-    let joined = walking::walk_up(query, site, sent, query.start, line);
-    walking::walk_down(query, site, joined, query.start, line).err()
+    let asked = Asked {
+        query,
+        site: &surveyed,
+    };
+    Ok(asked.list(room))
 }
 
 // Whether the telegram comes to a line; if not, the first coupler on the path that does not hand it
@@ -162,5 +142,9 @@ pub fn why<'a>(
 {
     judge(query, 768)?;
     let surveyed = site::survey(site, stores)?;
-    Ok(explain(query, &surveyed, line))
+    let asked = Asked {
+        query,
+        site: &surveyed,
+    };
+    Ok(asked.explain(line))
 }

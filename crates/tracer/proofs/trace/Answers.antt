@@ -16,7 +16,10 @@ returns-in_err-surveyed c =
 pub list-requires : goal.list-requires
 list-requires c =
     let fine = sym c.judge.ensures ∙ c.in_ok-judge.was in
-    (asked-room c.args.query fine, survey-notes c.survey.ensures (λ i. (c.type_inv.site i).fits) c.in_ok-surveyed.was)
+    asked-room c.args.query fine
+
+pub invariant_of-asked : goal.invariant_of-asked
+invariant_of-asked c = record { noted = survey-notes c.survey.ensures (λ i. (c.type_inv.site i).fits) c.in_ok-surveyed.was }
 
 pub returns : goal.returns
 returns c =

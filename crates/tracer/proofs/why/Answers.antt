@@ -13,8 +13,8 @@ pub returns-in_err-surveyed : goal.returns-in_err-surveyed
 returns-in_err-surveyed c =
     handed-on c.from_residual-in_err-surveyed.result c.from_residual-in_err-surveyed.ensures.1 ∙ why-refused _ _ _ _ (sym c.judge.ensures ∙ c.in_ok-judge.was) _ c.survey.ensures.judged c.in_err-surveyed.was
 
-pub explain-requires : goal.explain-requires
-explain-requires c = survey-notes c.survey.ensures (λ i. (c.type_inv.site i).fits) c.in_ok-surveyed.was
+pub invariant_of-asked : goal.invariant_of-asked
+invariant_of-asked c = record { noted = survey-notes c.survey.ensures (λ i. (c.type_inv.site i).fits) c.in_ok-surveyed.was }
 
 pub returns : goal.returns
 returns c =

@@ -3,10 +3,10 @@ use mathlib.Core.Path.{sym, ◌∙◌}
 use native.Mathlib.Omega.{arith}
 use Rattle.tracer.proofs.ReachingLaws.{less-deep}
 use Rattle.tracer.proofs.WalkingLaws.{not-zero, up-joined, up_more}
-use Rattle.tracer.proofs.walking.+walk_up.Goals as goal
+use Rattle.tracer.proofs.asked.Asked.+walk_up.Goals as goal
 
 pub returns-then-is_above : goal.returns-then-is_above
-returns-then-is_above t c = up-joined _ _ c.args.query _ _ _ c.is_above.ensures c.if-is_above.true
+returns-then-is_above t c = up-joined _ _ c.args.self.now.query _ _ _ c.is_above.ensures c.if-is_above.true
 
 pub walk_up-requires : goal.walk_up-requires
 walk_up-requires t c =
@@ -14,4 +14,4 @@ walk_up-requires t c =
 
 pub returns : goal.returns
 returns t c =
-    up_more _ _ c.args.query _ _ _ c.is_above.ensures c.if-is_above.false c.hand_on-next.ensures c.main_side.ensures c.walk_up.ensures
+    up_more _ _ c.args.self.now.query _ _ _ c.is_above.ensures c.if-is_above.false c.hand_on-next.ensures c.main_side.ensures c.walk_up.ensures

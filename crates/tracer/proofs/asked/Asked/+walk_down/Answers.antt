@@ -3,10 +3,10 @@ use mathlib.Core.Path.{sym, ◌∙◌}
 use native.Mathlib.Omega.{arith}
 use Rattle.tracer.proofs.ReachingLaws.{less-deep}
 use Rattle.tracer.proofs.WalkingLaws.{not-zero, down-joined, down-more}
-use Rattle.tracer.proofs.walking.+walk_down.Goals as goal
+use Rattle.tracer.proofs.asked.Asked.+walk_down.Goals as goal
 
 pub returns-then-is_above : goal.returns-then-is_above
-returns-then-is_above t c = down-joined _ _ c.args.query _ _ _ c.is_above.ensures c.if-is_above.true
+returns-then-is_above t c = down-joined _ _ c.args.self.now.query _ _ _ c.is_above.ensures c.if-is_above.true
 
 pub walk_down-main-requires : goal.walk_down-main-requires
 walk_down-main-requires t c =
@@ -14,4 +14,4 @@ walk_down-main-requires t c =
 
 pub returns : goal.returns
 returns t c =
-    down-more _ _ c.args.query _ _ _ c.is_above.ensures c.if-is_above.false c.main_side.ensures c.walk_down-main.ensures c.hand_on.ensures
+    down-more _ _ c.args.self.now.query _ _ _ c.is_above.ensures c.if-is_above.false c.main_side.ensures c.walk_down-main.ensures c.hand_on.ensures
