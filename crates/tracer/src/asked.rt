@@ -37,9 +37,8 @@ impl<'a> Asked<'a> {
         ensures { result ≡ handed_on (stores_in self.now.site.now.stores) self.now.site.now.records.now self.now.query walk (crossing direction coupler) }
     {
         let count = walk?;
-        let reason = self
-            .site
-            .why_not(coupler, direction, self.query.address(), count);
+        let address = self.query.address();
+        let reason = self.site.why_not(coupler, direction, address, count);
         if reason == Passage::Passes {
             return Ok(self.query.hopped(count));
         }

@@ -14,7 +14,7 @@ returns-then-eq c =
     let a = c.args in
     let q = a.self.now.query in
     let st = stores_in a.self.now.site.now.stores in
-    let reason = (rw (c.address.ensures.0, c.address.ensures.1) at c.why_not-reason.ensures) ∙ noted-passage a.self.now.noted st q.kind q.destination a.direction a.coupler _ c.ranges.coupler.fits in
+    let reason = (rw (c.address-address.ensures.0, c.address-address.ensures.1) at c.why_not-reason.ensures) ∙ noted-passage a.self.now.noted st q.kind q.destination a.direction a.coupler _ c.ranges.coupler.fits in
     hand-goes _ _ q _ _ c.in_ok-count.was reason (c.eq.ensures ∙ same-passes c.why_not-reason.result) c.if-eq.true c.hopped.ensures
 
 pub returns : goal.returns
@@ -22,5 +22,5 @@ returns c =
     let a = c.args in
     let q = a.self.now.query in
     let st = stores_in a.self.now.site.now.stores in
-    let reason = (rw (c.address.ensures.0, c.address.ensures.1) at c.why_not-reason.ensures) ∙ noted-passage a.self.now.noted st q.kind q.destination a.direction a.coupler _ c.ranges.coupler.fits in
+    let reason = (rw (c.address-address.ensures.0, c.address-address.ensures.1) at c.why_not-reason.ensures) ∙ noted-passage a.self.now.noted st q.kind q.destination a.direction a.coupler _ c.ranges.coupler.fits in
     hand-stops _ _ q _ _ c.in_ok-count.was reason (c.eq.ensures ∙ same-passes c.why_not-reason.result) c.if-eq.false
