@@ -26,6 +26,13 @@ pub(crate) fn query_from(start: u32, kind: u32, destination: u32, count: u32) ->
     }
 }
 
+// On a refusal no lines and no forwardings.
+fn refused(refusal: Refusal) -> u64
+    ensures { result ≡ traced_number (Err refusal) }
+{
+    u64::from(refusal.number())
+}
+
 pub(crate) fn of_traced(answer: Result<Traced, Refusal>) -> u64
     ensures { result ≡ traced_number answer }
 {
@@ -35,7 +42,7 @@ pub(crate) fn of_traced(answer: Result<Traced, Refusal>) -> u64
             let forwardings = (traced.forwardings % 65536) as u64;
             lines * 256 + forwardings * 16777216
         }
-        Err(refusal) => u64::from(refusal.number()),
+        Err(refusal) => refused(refusal),
     }
 }
 

@@ -1,5 +1,5 @@
 -- The weights of the parts are apart, so that their sum fits; it is the definition's.
-use mathlib.Core.Path.{refl, ◌∙◌}
+use mathlib.Core.Path.{refl}
 use Rattle.klumdray.specs.Traces.{traced_number}
 use Rattle.klumdray.proofs.traces.of_traced.Goals as goal
 
@@ -8,5 +8,4 @@ unfolding traced_number
 returns-in-Ok c = rw c.in-Ok.is refl
 
 pub returns-in-Err : goal.returns-in-Err
-unfolding traced_number
-returns-in-Err c = rw c.in-Err.is (c.from.ensures ∙ c.number.ensures)
+returns-in-Err c = rw c.in-Err.is c.refused.ensures
