@@ -8,6 +8,7 @@ use std::io;
 use std::io::Read;
 
 // Reads until the room is full or the input ends, and says how many octets the room then begins with.
+// A loop: `read_exact` does not say how many a shorter input had, and `read_to_end` asks for a heap.
 fn read_full(input: &mut impl Read, room: &mut [u8]) -> io::Result<usize>
     ensures { IfOk result (λ size. size ≤ length room.new) }
 {
