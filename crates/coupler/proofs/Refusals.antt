@@ -1,6 +1,6 @@
 -- Each refusal of the settings exactly in its listed case, then the reader's, then an accepted frame: corollaries of the law of tests in
--- order. Neither reader gives 15, 18, 14 or 13, and the outcome's number tells the refusals apart.
-use Rattle.std.specs.Prelude.{Result, Ok, Err}
+-- order. Neither reader gives 15, 18, 14 or 13, and the outcome's refusal and its number tell the refusals apart.
+use Rattle.std.specs.Prelude.{Result, Ok, Err, Some, None}
 use Prim.Native.Nat.{ℕ}
 use mathlib.Core.Bool.{Bool, true, false, not, ◌&&◌, ◌||◌}
 use mathlib.Core.List.{List, [], ◌∷◌, ◌++◌}
@@ -12,7 +12,9 @@ use borrow.Author.Tests.{eqb-false}
 use Rattle.coupler.proofs.Apart.{frame-nothing, nothing-one}
 use Rattle.passing.specs.Settings.{are_codes, table_fits}
 use Rattle.coupler.specs.Step.{Coupler, setting_tests, from_ip, Heard, heard_tp1, heard_ip, read_by, after, heard, outcome_by, frame, nothing}
+use Rattle.frame.proofs.Apart.{none-some, some-one}
 use Rattle.frame.proofs.Numbers.{refused-number, number-apart}
+use Rattle.frame.specs.Answers.{refusal_number}
 use Rattle.frame.specs.Order.{Test, first_of, answer_by, NoneOf, ◌gives◌}
 use Rattle.frame.specs.Refusals.{number}
 use Rattle.frame.specs.declared.Meaning.{Meaning}
@@ -82,11 +84,20 @@ module _ (k : Coupler) (s : List ℕ) (room : ℕ) where
   pub refused-13 : heard k s room ≡ nothing SmallRoom ↔ (NoneOf (take 3 (setting_tests k room)) × (ltb room 272 ≡ true))
   refused-13 = once-at (take 3 (setting_tests k room)) [] _ SmallRoom refl refl refl refl refl
 
--- the outcome's number is a refusal's exactly if that refusal was heard, and 0 exactly if none was
-pub number-iff : (k : Coupler) (remembered s : List ℕ) (h : Heard) (r : Refusal) → (outcome_by k remembered s h).number ≡ number r ↔ (h ≡ nothing r)
+-- the outcome has a refusal exactly if that refusal was heard, and none exactly if none was
+pub refusal-iff : (k : Coupler) (remembered s : List ℕ) (h : Heard) (r : Refusal) → (outcome_by k remembered s h).refusal ≡ Some r ↔ (h ≡ nothing r)
+refusal-iff k remembered s (frame m p) r = ((λ e. none-some e), λ e. absurd (frame-nothing (sym e)))
+refusal-iff k remembered s (nothing q) r = ((λ e. ap nothing (some-one e)), λ e. ap Some (nothing-one e))
+
+pub none-iff : (k : Coupler) (remembered s : List ℕ) (h : Heard) → (outcome_by k remembered s h).refusal ≡ None ↔ ((r : Refusal) → h ≡ nothing r → ⊥)
+none-iff k remembered s (frame m p) = ((λ e r z. frame-nothing (sym z)), λ f. refl)
+none-iff k remembered s (nothing r) = ((λ e. none-some (sym e)), λ f. absurd (f r refl))
+
+-- its number is a refusal's exactly if that refusal was heard, and 0 exactly if none was
+pub number-iff : (k : Coupler) (remembered s : List ℕ) (h : Heard) (r : Refusal) → refusal_number (outcome_by k remembered s h).refusal ≡ number r ↔ (h ≡ nothing r)
 number-iff k remembered s (frame m p) r = ((λ e. absurd (eqb-false (number r) 0 (refused-number r) (sym e))), λ e. absurd (frame-nothing (sym e)))
 number-iff k remembered s (nothing q) r = ((λ e. ap nothing (number-apart q r e)), λ e. ap number (nothing-one e))
 
-pub zero-iff : (k : Coupler) (remembered s : List ℕ) (h : Heard) → (outcome_by k remembered s h).number ≡ 0 ↔ ((r : Refusal) → h ≡ nothing r → ⊥)
+pub zero-iff : (k : Coupler) (remembered s : List ℕ) (h : Heard) → refusal_number (outcome_by k remembered s h).refusal ≡ 0 ↔ ((r : Refusal) → h ≡ nothing r → ⊥)
 zero-iff k remembered s (frame m p) = ((λ e r z. frame-nothing (sym z)), λ f. refl)
 zero-iff k remembered s (nothing r) = ((λ e. absurd (eqb-false (number r) 0 (refused-number r) e)), λ f. absurd (f r refl))

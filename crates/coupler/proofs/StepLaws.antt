@@ -1,5 +1,6 @@
 -- What the parts of a step ensure, put together: a frame that was read has a form on either medium, and a room of 272 holds it.
-use Rattle.std.specs.Prelude.{Result, Ok, Err}
+use Rattle.std.specs.Prelude.{Option, Result, Ok, Err, is_some, is_none}
+use Rattle.std.specs.Result.{result_unwrap_or}
 use Prim.Native.Nat.{ℕ, ◌-◌, ◌≤◌, ◌<◌}
 use mathlib.Core.Bool.{Bool, true, false, not, cond, ◌&&◌}
 use mathlib.Core.List.{List}
@@ -16,12 +17,11 @@ use Rattle.coupler.specs.Memory.{kept, recalled, side_of, remembered_on}
 use Rattle.coupler.specs.Stages.{remembered_if}
 use Rattle.coupler.specs.Setting.{stays_by, hopped_by}
 use Rattle.coupler.specs.Step.{Coupler, setting_tests, from_ip, Heard, heard_tp1, heard_ip, read_by, after, heard, repeats, forwarded_meaning, indication, form_of, sent_of, accepted_outcome, refused_outcome, outcome_by, sent_by, HandedOn, memory_after, Did, frame, nothing}
-use Rattle.coupler.specs.Stages.{put_size, Sent, PassedOn, HandedBy}
+use Rattle.coupler.specs.Stages.{Sent, PassedOn, HandedBy}
 use Rattle.coupler.specs.declared.Memory.{Memory}
 use Rattle.coupler.specs.declared.Outcome.{Outcome}
 use Rattle.coupler.specs.declared.Remembered.{Remembered}
 use Rattle.coupler.specs.declared.Setting.{Setting}
-use Rattle.frame.proofs.Numbers.{refused-number}
 use Rattle.frame.proofs.Order.{passed-iff}
 use Rattle.frame.proofs.Valid.{ranges-of, ranged, most-payload}
 use Rattle.frame.proofs.Writing.{put-iff, wrote-over}
@@ -61,17 +61,17 @@ unfolding message_in_range
 indication-ranged k m n e = forwarded-ranged k m n e
 
 -- a writer that refused nothing has sent the frame
-sent-all : {ok : Bool} {octets room : List ℕ} {w : Result ℕ Refusal} {room' : List ℕ} {n : ℕ} → ok ≡ true → length octets ≤ length room → Wrote ok octets room w room' → n ≡ put_size w → Sent octets room n room'
+sent-all : {ok : Bool} {octets room : List ℕ} {w : Result ℕ Refusal} {room' : List ℕ} {n : ℕ} → ok ≡ true → length octets ≤ length room → Wrote ok octets room w room' → n ≡ result_unwrap_or w 0 → Sent octets room n room'
 sent-all {ok} {octets} {room} {w} e h x s =
     let a : w ≡ Ok (length octets) = x.answered ∙ (put-iff ok octets room (length octets)).1 (e, (h, refl)) in
-    record { count = s ∙ ap put_size a; left = wrote-over e h x }
+    record { count = s ∙ ap (λ (v : Result ℕ Refusal). result_unwrap_or v 0) a; left = wrote-over e h x }
 
 module _ (k : Setting) (m : Meaning) (p room : List ℕ) (e : in_range m (length p) ≡ true) (h : 272 ≤ length room) {w : Result ℕ Refusal} {room' : List ℕ} {n : ℕ} where
-  pub sent-tp1 : Wrote (in_range (forwarded_meaning k m) (length p)) (tp1_octets (forwarded_meaning k m) p) room w room' → n ≡ put_size w → Sent (form_of false k m p) room n room'
+  pub sent-tp1 : Wrote (in_range (forwarded_meaning k m) (length p)) (tp1_octets (forwarded_meaning k m) p) room w room' → n ≡ result_unwrap_or w 0 → Sent (form_of false k m p) room n room'
   unfolding form_of
   sent-tp1 x s = sent-all (forwarded-ranged k m (length p) e) (omega (arith, octets-most (forwarded_meaning k m) p (forwarded-ranged k m (length p) e))) x s
 
-  pub sent-ip : Wrote (message_in_range IndicationOnly (indication (forwarded_meaning k m)) (length p)) (routing_octets (indication (forwarded_meaning k m)) p) room w room' → n ≡ put_size w → Sent (form_of true k m p) room n room'
+  pub sent-ip : Wrote (message_in_range IndicationOnly (indication (forwarded_meaning k m)) (length p)) (routing_octets (indication (forwarded_meaning k m)) p) room w room' → n ≡ result_unwrap_or w 0 → Sent (form_of true k m p) room n room'
   unfolding form_of
   sent-ip x s = sent-all (indication-ranged k m (length p) e) (omega (arith, length-routing (indication (forwarded_meaning k m)) p, most-payload m (length p) e)) x s
 
@@ -102,28 +102,35 @@ handed-on {k} {remembered} {s} {h} {room} e x =
 pub fine-room : (k : Coupler) (n : ℕ) → first_of (setting_tests k n) ≡ Ok tt → 272 ≤ n
 fine-room k n e = ltb-false n 272 ((passed-iff (setting_tests k n)).0 e).1.1.1.0
 
--- the memory that the code keeps by the outcome's number is the one that the step says
-pub memory-by-number : (k : Coupler) (remembered : List ℕ) (m : Memory) (s : List ℕ) (h : Heard)
-    → remembered_if (eqb (outcome_by k remembered s h).number 0 && not (from_ip k)) m k.setting.side s ≡ memory_after k m s h
+-- the memory that the code keeps by the outcome's refusal is the one that the step says
+pub memory-by-refusal : (k : Coupler) (remembered : List ℕ) (m : Memory) (s : List ℕ) (h : Heard)
+    → remembered_if (is_none (outcome_by k remembered s h).refusal && not (from_ip k)) m k.setting.side s ≡ memory_after k m s h
 unfolding remembered_if
-memory-by-number k remembered m s (frame x p) = go (from_ip k)
+memory-by-refusal k remembered m s (frame x p) = go (from_ip k)
   where
     go : (b : Bool) → cond (not b) (remembered_on m k.setting.side s) m ≡ cond b m (remembered_on m k.setting.side s)
     go true = refl
     go false = refl
-memory-by-number k remembered m s (nothing r) = rw (refused-number r)
+memory-by-refusal k remembered m s (nothing r) = refl
 
--- handing on with the frame that the side remembers, and remembering by the outcome's number, are a step
-pub did : (k : Coupler) (m : Memory) (s : List ℕ) {room : List ℕ} {r : Remembered} {n : ℕ} {o : Outcome} {m' : Memory} {room' : List ℕ} → r ≡ side_of m k.setting.side → n ≡ kept r
-    → HandedOn k (take n r.octets) s room o room'
-    → m' ≡ remembered_if (eqb o.number 0 && not (from_ip k)) m k.setting.side s
+-- what `Option::is_none` ensures, as a value
+pub none-told : (o : Option Refusal) (b : Bool) → is_some o ≡ not b → b ≡ is_none o
+none-told o true e = sym (ap not e)
+none-told o false e = sym (ap not e)
+
+-- handing on with the frame that the side remembers, and remembering by the outcome's refusal, are a step
+pub did : (k : Coupler) (m : Memory) (s : List ℕ) (fine : Bool) {remembered room : List ℕ} {o : Outcome} {m' : Memory} {room' : List ℕ} {ip : Bool} → remembered ≡ recalled (side_of m k.setting.side)
+    → HandedOn k remembered s room o room'
+    → is_some o.refusal ≡ not fine → ip ≡ from_ip k
+    → m' ≡ remembered_if (fine && not ip) m k.setting.side s
     → Did k m s room o m' room'
-unfolding recalled
-did k m s {room} {r} {n} {o} {m'} {room'} e j x y =
-    let q : take n r.octets ≡ recalled (side_of m k.setting.side) = ap (λ (i : ℕ). take i r.octets) j ∙ ap recalled e in
+did k m s fine {remembered} {room} {o} {m'} {room'} {ip} e x f g y =
     record {
-      handed = subst (λ (l : List ℕ). HandedOn k l s room o room') q x;
-      memory = y ∙ ap (λ (p : Outcome). remembered_if (eqb p.number 0 && not (from_ip k)) m k.setting.side s) x.outcome ∙ memory-by-number k (take n r.octets) m s (heard k s (length room));
+      handed = subst (λ (l : List ℕ). HandedOn k l s room o room') e x;
+      memory =
+          rw (none-told o.refusal fine f, g) at y
+          ∙ ap (λ (p : Outcome). remembered_if (is_none p.refusal && not (from_ip k)) m k.setting.side s) x.outcome
+          ∙ memory-by-refusal k remembered m s (heard k s (length room));
     }
 
 -- a TP1 frame has at most 263 octets: it fits the memory

@@ -1,5 +1,5 @@
 -- A series of frames: the step as a fold over a list of inputs, the memory handed on from each to the next.
-use Rattle.std.specs.Prelude.{Bool, cond, not, ◌&&◌, List, [], ◌∷◌, ℕ, eqb, length}
+use Rattle.std.specs.Prelude.{Bool, cond, not, ◌&&◌, List, [], ◌∷◌, ℕ, eqb, length, is_none}
 use Rattle.octets.specs.Room.{over}
 use Rattle.coupler.specs.declared.Outcome.{Outcome}
 use Rattle.coupler.specs.declared.Memory.{Memory}
@@ -38,10 +38,10 @@ Follows m [] (d ∷ ds) = ⊥
 Follows m (i ∷ is) [] = ⊥
 Follows m (i ∷ is) (d ∷ ds) = Did i.coupler m i.octets i.room d.outcome d.memory d.room × Follows d.memory is ds
 
--- "the last accepted frame that was received from it", as inputs and answers tell it: a step has accepted a frame from a TP1 side if its number
--- is 0, and it came by TP1 and from that side
+-- "the last accepted frame that was received from it", as inputs and answers tell it: a step has accepted a frame from a TP1 side if it has
+-- no refusal, and it came by TP1 and from that side
 abbrev pub is_accepted_from : ℕ → Input → Done → Bool
-is_accepted_from side i d = eqb d.outcome.number 0 && (not (from_ip i.coupler) && eqb i.coupler.setting.side side)
+is_accepted_from side i d = is_none d.outcome.refusal && (not (from_ip i.coupler) && eqb i.coupler.setting.side side)
 
 -- the last of a series, or what there was before it
 abbrev pub last_accepted : ℕ → List ℕ → List Input → List Done → List ℕ

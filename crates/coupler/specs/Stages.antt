@@ -1,20 +1,15 @@
 -- A step in stages: for the contracts of private functions. No public contract rests on these definitions.
-use Rattle.std.specs.Prelude.{ℕ, ◌≡◌, List, Bool, cond, length, Result, Ok, Err}
+use Rattle.std.specs.Prelude.{ℕ, ◌≡◌, List, Bool, cond, length}
 use Rattle.octets.specs.Room.{over}
 use Rattle.frame.specs.declared.Meaning.{Meaning}
 use Rattle.coupler.specs.declared.Memory.{Memory}
 use Rattle.coupler.specs.declared.Outcome.{Outcome}
 use Rattle.coupler.specs.Memory.{remembered_on}
 use Rattle.coupler.specs.Step.{Coupler, Heard, sent_of, accepted_outcome, outcome_by, sent_by}
-use Rattle.frame.specs.declared.Refusal.{Refusal}
 
 -- "Afterwards the accepted frame is the remembered one."; the other side's is as it was
 unfoldable pub remembered_if : Bool → Memory → ℕ → List ℕ → Memory
 remembered_if accepted m side frame = cond accepted (remembered_on m side frame) m
-
-abbrev pub put_size : Result ℕ Refusal → ℕ
-put_size (Ok n) = n
-put_size (Err r) = 0
 
 -- octets that were sent: how many, and the room with them at its front
 pub record Sent (octets room : List ℕ) (size : ℕ) (room' : List ℕ) : Type 0 where

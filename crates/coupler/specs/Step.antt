@@ -1,11 +1,10 @@
 -- One coupler step: document 01, "The coupler".
-use Rattle.std.specs.Prelude.{ℕ, ◌≡◌, List, [], ◌∷◌, ◌++◌, Bool, true, false, cond, not, ◌&&◌, ◌||◌, length, ltb, eqb, Result, Ok, Err}
+use Rattle.std.specs.Prelude.{ℕ, ◌≡◌, List, [], ◌∷◌, ◌++◌, Bool, true, false, cond, not, ◌&&◌, ◌||◌, length, ltb, eqb, Result, Ok, Err, Option, Some, None}
 use Rattle.octets.specs.Octets.{weigh}
 use Rattle.octets.specs.Room.{over}
 use Rattle.frame.specs.declared.Meaning.{Meaning}
 use Rattle.frame.specs.declared.Refusal.{Refusal}
 use Rattle.frame.specs.declared.Refusal.TheVariants.{WrongSetting, NoTable, OutOfRange, SmallRoom}
-use Rattle.frame.specs.Refusals.{number}
 use Rattle.frame.specs.Order.{Test, ◌gives◌, first_of}
 use Rattle.tp1.specs.Layout.{tp1_octets}
 use Rattle.tp1.specs.Reading.{tp1_tests, read_tp1, payload_in}
@@ -147,7 +146,7 @@ sent_of k repetition m p = cond (is_forwarded k repetition m) (forwarded_octets 
 -- "The step's result: number, acknowledgement or none, for itself or not, octets forwarded (0 if none)."
 abbrev pub accepted_outcome : Coupler → Bool → Meaning → List ℕ → Outcome
 accepted_outcome k repetition m p = record {
-  number = 0;
+  refusal = None;
   acknowledgement = acknowledgement_of k m;
   own = is_for_itself k m;
   forwarded = length (sent_of k repetition m p);
@@ -155,7 +154,7 @@ accepted_outcome k repetition m p = record {
 
 -- "On a refusal: its number, none, not, 0.", whatever octets were received
 abbrev pub refused_outcome : Coupler → List ℕ → Refusal → Outcome
-refused_outcome k s r = record { number = number r; acknowledgement = Silence; own = false; forwarded = 0 }
+refused_outcome k s r = record { refusal = Some r; acknowledgement = Silence; own = false; forwarded = 0 }
 
 -- the outcome and the octets sent, of octets received as which this was heard
 abbrev pub outcome_by : Coupler → List ℕ → List ℕ → Heard → Outcome

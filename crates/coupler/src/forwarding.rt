@@ -4,61 +4,14 @@ ghost use Rattle.octets.specs.Room.{over};
 ghost use Rattle.frame.specs.Order.{first_of};
 ghost use Rattle.frame.specs.Valid.{in_range};
 ghost use Rattle.coupler.specs.Memory.{is_repetition};
-ghost use Rattle.coupler.specs.Hearing.{meaning_only, answer_on, payload_on};
-ghost use Rattle.coupler.specs.Step.{coupler_by, setting_tests, from_ip, read_by, kind_of, is_allowed, acknowledgement_by, forwarded_meaning, form_of, refused_outcome};
-ghost use Rattle.coupler.specs.Stages.{put_size, Sent, PassedOn, HandedBy};
+ghost use Rattle.coupler.specs.Hearing.{answer_on, payload_on};
+ghost use Rattle.coupler.specs.Step.{coupler_by, setting_tests, from_ip, to_ip, read_by, kind_of, is_allowed, acknowledgement_by, forwarded_meaning, indication, form_of, refused_outcome};
+ghost use Rattle.coupler.specs.Stages.{Sent, PassedOn, HandedBy};
 
-use crate::{Acknowledgement, Outcome, Setting};
+use crate::{Acknowledgement, Coupler, Outcome, Setting};
 use cemi::Message;
 use frame::{Meaning, Refusal};
 use passing::{Address, Filter};
-
-// "On a refusal: its number, none, not, 0."
-pub(crate) fn refused(
-    setting: Setting,
-    codes: [[u8; 4]; 2],
-    table: &[u8],
-    octets: &[u8],
-    refusal: Refusal,
-) -> Outcome
-    ensures { result ≡ refused_outcome (coupler_by setting codes table.now) octets.now refusal }
-{
-    Outcome {
-        number: refusal.number(),
-        acknowledgement: Acknowledgement::Silence,
-        own: false,
-        forwarded: 0,
-    }
-}
-
-// The refusals that stand before the reader's: 15, 18, 14, 13.
-pub(crate) fn judge(
-    setting: Setting,
-    codes: [[u8; 4]; 2],
-    table: &[u8],
-    room: usize,
-) -> Result<(), Refusal>
-    ensures { result ≡ first_of (setting_tests (coupler_by setting codes table.now) room) }
-{
-    let allowed = passing::settings::are_codes(codes);
-    let wrong = (setting.line == 0) | !allowed;
-    if wrong {
-        return Err(Refusal::WrongSetting);
-    }
-    if passing::settings::table_fits(codes, table.len()) {
-        let named = (setting.side < 2) & (setting.medium < 2);
-        if named {
-            if room < 272 {
-                return Err(Refusal::SmallRoom);
-            }
-            Ok(())
-        } else {
-            Err(Refusal::OutOfRange)
-        }
-    } else {
-        Err(Refusal::NoTable)
-    }
-}
 
 fn kind_of(meaning: Meaning) -> u8
     ensures { result ≡ kind_of meaning }
@@ -75,28 +28,26 @@ fn address_of(meaning: Meaning) -> Address
     }
 }
 
-// Address, codes and count allow forwarding.
-fn is_allowed(setting: Setting, codes: [[u8; 4]; 2], table: &[u8], meaning: Meaning) -> bool
-    ensures { result ≡ is_allowed (coupler_by setting codes table.now) meaning }
-{
-    let filter = Filter {
-        line: setting.line,
-        codes,
-        table,
-    };
-    let passes = filter.may_pass(setting.side, address_of(meaning));
-    passes & (meaning.count != 0)
-}
-
 // Worked out from the fields as they stand, apart from acceptance and repetition.
+#[tactic(auto, unfolding(crate::specs::Step::acknowledgement_by))]
 fn acknowledgement(ip: bool, own: bool, allowed: bool) -> Acknowledgement
     ensures { result ≡ acknowledgement_by ip own allowed }
 {
-    let due = !ip & (own | allowed);
-    if due {
+    if !ip & (own | allowed) {
         Acknowledgement::Acknowledged
     } else {
         Acknowledgement::Silence
+    }
+}
+
+// "on IP it is a plain indication in a routing datagram"
+fn indication(meaning: Meaning) -> Message
+    ensures { result ≡ indication meaning }
+{
+    Message {
+        code: 0x29,
+        error: false,
+        meaning,
     }
 }
 
@@ -104,22 +55,9 @@ fn forwarded_meaning(setting: Setting, meaning: Meaning) -> Meaning
     ensures { result ≡ forwarded_meaning setting meaning }
 {
     Meaning {
-        extended: meaning.extended,
         first: true,
-        priority: meaning.priority,
-        source: meaning.source,
-        group: meaning.group,
-        destination: meaning.destination,
-        count: crate::hopped(setting, meaning.count),
-    }
-}
-
-fn put_size(written: Result<usize, Refusal>) -> usize
-    ensures { result ≡ put_size written }
-{
-    match written {
-        Ok(size) => size,
-        Err(_) => 0,
+        count: setting.hopped(meaning.count),
+        ..meaning
     }
 }
 
@@ -129,74 +67,19 @@ fn forward(ip: bool, setting: Setting, meaning: Meaning, payload: &[u8], room: &
     ensures { Sent (form_of ip setting meaning payload.now) room.old result room.new }
 {
     let meaning = forwarded_meaning(setting, meaning);
-    if ip {
-        let message = Message {
-            code: 0x29,
-            error: false,
-            meaning,
-        };
-        put_size(routing::write(message, payload, room))
+    let written = if ip {
+        routing::write(indication(meaning), payload, room)
     } else {
-        put_size(tp1::write(meaning, payload, room))
-    }
-}
-
-fn pass_on(
-    setting: Setting,
-    codes: [[u8; 4]; 2],
-    table: &[u8],
-    repetition: bool,
-    meaning: Meaning,
-    payload: &[u8],
-    room: &mut [u8],
-) -> Outcome
-    requires { (in_range meaning (length payload.now) ≡ true) × (272 ≤ length room.old) }
-    ensures { PassedOn (coupler_by setting codes table.now) repetition meaning payload.now room.old result room.new }
-{
-    let own = passing::is_own(setting.line, address_of(meaning));
-    let allowed = is_allowed(setting, codes, table, meaning);
-    let from_ip = (setting.side == 0) & (setting.medium == 1);
-    let acknowledgement = acknowledgement(from_ip, own, allowed);
-    let forwards = allowed & !repetition;
-    if forwards {
-        let ip = (setting.side == 1) & (setting.medium == 1);
-        let forwarded = forward(ip, setting, meaning, payload, room);
-        Outcome {
-            number: 0,
-            acknowledgement,
-            own,
-            forwarded,
-        }
-    } else {
-        Outcome {
-            number: 0,
-            acknowledgement,
-            own,
-            forwarded: 0,
-        }
-    }
+        tp1::write(meaning, payload, room)
+    };
+    written.unwrap_or(0)
 }
 
 // "IP has neither memory nor acknowledgement"
 fn repeats(ip: bool, remembered: &[u8], octets: &[u8]) -> bool
     ensures { result ≡ not ip && is_repetition remembered.now octets.now }
 {
-    if ip {
-        return false;
-    }
-    crate::is_repetition(remembered, octets)
-}
-
-fn meaning_only(answer: Result<Message, Refusal>) -> Result<Meaning, Refusal>
-    ensures { result ≡ meaning_only answer }
-{
-    match answer {
-        Err(refusal) => Err(refusal),
-        Ok(message) => {
-            let meaning = message.meaning;
-            Ok(meaning)
-        }
-    }
+    !ip && crate::is_repetition(remembered, octets)
 }
 
 // What a frame means, or the reader's refusal, whichever medium it came by.
@@ -204,7 +87,7 @@ fn hear(ip: bool, octets: &[u8]) -> Result<Meaning, Refusal>
     ensures { result ≡ answer_on ip octets.now }
 {
     if ip {
-        meaning_only(routing::read(octets))
+        routing::read(octets).map(|message| message.meaning)
     } else {
         tp1::read(octets)
     }
@@ -215,36 +98,102 @@ fn payload_of(ip: bool, meaning: Meaning, octets: &[u8]) -> &[u8]
     ensures { result.now ≡ payload_on ip meaning octets.now }
 {
     if ip {
-        let message = Message {
-            code: 0x29,
-            error: false,
-            meaning,
-        };
-        routing::payload(Ok(message), octets)
+        routing::payload(Ok(indication(meaning)), octets)
     } else {
         tp1::payload(Ok(meaning), octets)
     }
 }
 
-pub(crate) fn receive(
-    setting: Setting,
-    codes: [[u8; 4]; 2],
-    table: &[u8],
-    remembered: &[u8],
-    octets: &[u8],
-    room: &mut [u8],
-) -> Outcome
-    requires { 272 ≤ length room.old }
-    ensures { HandedBy (coupler_by setting codes table.now) remembered.now octets.now (read_by (from_ip (coupler_by setting codes table.now)) octets.now) room.old result room.new }
-{
-    let ip = (setting.side == 0) & (setting.medium == 1);
-    let answer = hear(ip, octets);
-    match answer {
-        Err(refusal) => refused(setting, codes, table, octets, refusal),
-        Ok(meaning) => {
-            let payload = payload_of(ip, meaning, octets);
-            let repetition = repeats(ip, remembered, octets);
-            pass_on(setting, codes, table, repetition, meaning, payload, room)
+impl<'a> Coupler<'a> {
+    fn to_ip(&self) -> bool
+        ensures { result ≡ to_ip (coupler_by self.now.setting self.now.codes self.now.table.now) }
+    {
+        (self.setting.side == 1) & (self.setting.medium == 1)
+    }
+
+    // "On a refusal: its number, none, not, 0."
+    pub(crate) fn refused(&self, octets: &[u8], refusal: Refusal) -> Outcome
+        ensures { result ≡ refused_outcome (coupler_by self.now.setting self.now.codes self.now.table.now) octets.now refusal }
+    {
+        Outcome {
+            refusal: Some(refusal),
+            acknowledgement: Acknowledgement::Silence,
+            own: false,
+            forwarded: 0,
+        }
+    }
+
+    // The refusals that stand before the reader's: 15, 18, 14, 13.
+    pub(crate) fn judge(&self, room: usize) -> Result<(), Refusal>
+        ensures { result ≡ first_of (setting_tests (coupler_by self.now.setting self.now.codes self.now.table.now) room) }
+    {
+        if (self.setting.line == 0) | !passing::settings::are_codes(self.codes) {
+            return Err(Refusal::WrongSetting);
+        }
+        if !passing::settings::table_fits(self.codes, self.table.len()) {
+            return Err(Refusal::NoTable);
+        }
+        if !((self.setting.side < 2) & (self.setting.medium < 2)) {
+            return Err(Refusal::OutOfRange);
+        }
+        if room < 272 {
+            return Err(Refusal::SmallRoom);
+        }
+        Ok(())
+    }
+
+    // Address, codes and count allow forwarding.
+    fn is_allowed(&self, meaning: Meaning) -> bool
+        ensures { result ≡ is_allowed (coupler_by self.now.setting self.now.codes self.now.table.now) meaning }
+    {
+        let filter = Filter {
+            line: self.setting.line,
+            codes: self.codes,
+            table: self.table,
+        };
+        let passes = filter.may_pass(self.setting.side, address_of(meaning));
+        passes & (meaning.count != 0)
+    }
+
+    fn pass_on(
+        &self,
+        repetition: bool,
+        meaning: Meaning,
+        payload: &[u8],
+        room: &mut [u8],
+    ) -> Outcome
+        requires { (in_range meaning (length payload.now) ≡ true) × (272 ≤ length room.old) }
+        ensures { PassedOn (coupler_by self.now.setting self.now.codes self.now.table.now) repetition meaning payload.now room.old result room.new }
+    {
+        let own = passing::is_own(self.setting.line, address_of(meaning));
+        let allowed = self.is_allowed(meaning);
+        let acknowledgement = acknowledgement(self.from_ip(), own, allowed);
+        let forwards = allowed & !repetition;
+        let forwarded = if forwards {
+            forward(self.to_ip(), self.setting, meaning, payload, room)
+        } else {
+            0
+        };
+        Outcome {
+            refusal: None,
+            acknowledgement,
+            own,
+            forwarded,
+        }
+    }
+
+    pub(crate) fn receive(&self, remembered: &[u8], octets: &[u8], room: &mut [u8]) -> Outcome
+        requires { 272 ≤ length room.old }
+        ensures { HandedBy (coupler_by self.now.setting self.now.codes self.now.table.now) remembered.now octets.now (read_by (from_ip (coupler_by self.now.setting self.now.codes self.now.table.now)) octets.now) room.old result room.new }
+    {
+        let ip = self.from_ip();
+        match hear(ip, octets) {
+            Err(refusal) => self.refused(octets, refusal),
+            Ok(meaning) => {
+                let payload = payload_of(ip, meaning, octets);
+                let repetition = repeats(ip, remembered, octets);
+                self.pass_on(repetition, meaning, payload, room)
+            }
         }
     }
 }

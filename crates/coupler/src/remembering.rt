@@ -1,6 +1,6 @@
 // The frames that the TP1 sides remember, by value.
-ghost use Rattle.std.specs.Prelude.{◌≡◌, ◌≤◌};
-ghost use Rattle.coupler.specs.Memory.{no_frame, kept, remembering, side_of, remembered_on};
+ghost use Rattle.std.specs.Prelude.{◌≡◌};
+ghost use Rattle.coupler.specs.Memory.{no_frame, recalled, remembering, side_of, remembered_on};
 ghost use Rattle.coupler.specs.Stages.{remembered_if};
 
 use crate::{Memory, Remembered};
@@ -14,53 +14,61 @@ pub(crate) fn none() -> Remembered
     }
 }
 
-pub(crate) fn side_of(memory: Memory, side: u8) -> Remembered
-    ensures { result ≡ side_of memory side }
-{
-    let main = memory.main;
-    let sub = memory.sub;
-    if side == 0 { main } else { sub }
-}
+impl Remembered {
+    // The frame as a part of the octets, none if there is none; a size that no frame has is none.
+    #[tactic(auto, unfolding(crate::specs::Memory::recalled, crate::specs::Memory::kept))]
+    pub(crate) fn frame(&self) -> &[u8]
+        ensures { result.now ≡ recalled self.now }
+    {
+        let kept = if self.size <= 263 { self.size } else { 0 };
+        &self.octets[..kept]
+    }
 
-// How many octets of it are the frame's; a size that no frame has is none.
-pub(crate) fn kept_of(remembered: Remembered) -> usize
-    ensures { (result ≡ kept remembered) × (result ≤ 263) }
-{
-    let size = remembered.size;
-    if size <= 263 { size } else { 0 }
-}
-
-fn remember(remembered: Remembered, frame: &[u8]) -> Remembered
-    ensures { result ≡ remembering remembered frame.now }
-{
-    let mut octets = remembered.octets;
-    octets::lay(frame, 0, &mut octets);
-    Remembered {
-        size: frame.len(),
-        octets,
+    #[tactic(auto, unfolding(crate::specs::Memory::remembering))]
+    fn remember(self, frame: &[u8]) -> Remembered
+        ensures { result ≡ remembering self frame.now }
+    {
+        let mut octets = self.octets;
+        octets::lay(frame, 0, &mut octets);
+        Remembered {
+            size: frame.len(),
+            octets,
+        }
     }
 }
 
-fn remember_on(memory: Memory, side: u8, frame: &[u8]) -> Memory
-    ensures { result ≡ remembered_on memory side frame.now }
-{
-    let main = memory.main;
-    let sub = memory.sub;
-    if side == 0 {
-        let main = remember(main, frame);
-        Memory { main, sub }
-    } else {
-        let sub = remember(sub, frame);
-        Memory { main, sub }
+impl Memory {
+    pub(crate) fn side_of(&self, side: u8) -> &Remembered
+        ensures { result.now ≡ side_of self.now side }
+    {
+        if side == 0 { &self.main } else { &self.sub }
     }
-}
 
-pub(crate) fn remembered_if(accepted: bool, memory: Memory, side: u8, frame: &[u8]) -> Memory
-    ensures { result ≡ remembered_if accepted memory side frame.now }
-{
-    if accepted {
-        remember_on(memory, side, frame)
-    } else {
-        memory
+    #[tactic(auto, unfolding(crate::specs::Memory::remembered_on))]
+    fn remember_on(self, side: u8, frame: &[u8]) -> Memory
+        ensures { result ≡ remembered_on self side frame.now }
+    {
+        if side == 0 {
+            Memory {
+                main: self.main.remember(frame),
+                ..self
+            }
+        } else {
+            Memory {
+                sub: self.sub.remember(frame),
+                ..self
+            }
+        }
+    }
+
+    #[tactic(auto, unfolding(crate::specs::Stages::remembered_if))]
+    pub(crate) fn remembered_if(self, accepted: bool, side: u8, frame: &[u8]) -> Memory
+        ensures { result ≡ remembered_if accepted self side frame.now }
+    {
+        if accepted {
+            self.remember_on(side, frame)
+        } else {
+            self
+        }
     }
 }

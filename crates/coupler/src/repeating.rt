@@ -6,7 +6,7 @@ ghost use Rattle.coupler.specs.Memory.{unmarked, agree};
 fn unmarked(control: u8) -> u8
     ensures { result ≡ unmarked control }
 {
-    control - control / 32 % 2 * 32
+    control & !32
 }
 
 // "all octets must agree except the repeat bit and the check octet": compared where they lie.

@@ -1,6 +1,6 @@
 -- The block is two halves of 265 octets, each the remembered frame of a side: read out of the block, and put into it, as the step inside
 -- has it by value.
-use Rattle.std.specs.Prelude.{Err}
+use Rattle.std.specs.Prelude.{Err, is_some, is_none}
 use Prim.Native.Nat.{ℕ, ◌+◌, ◌-◌, ◌%◌, ◌≤◌}
 use mathlib.Core.Bool.{Bool, true, false, not, cond, ◌&&◌, ◌||◌}
 use mathlib.Core.List.{List, [], ◌∷◌, ◌++◌}
@@ -10,12 +10,11 @@ use lib.Dec.{ltb, leb, eqb}
 use lib.ListN.{length, take, drop, take-append-drop, length-drop, get_or-append}
 use lib.Seq.{length-take-le, take_all, take-append-le, drop-append-le, drop-append-add, get_or-append-add, take-take, take_at, drop_at}
 use borrow.Author.Tests.{leb-true, eqb-true}
-use Rattle.coupler.proofs.StepLaws.{heard-size}
+use Rattle.coupler.proofs.StepLaws.{heard-size, none-told}
 use Rattle.coupler.specs.Memory.{kept, recalled, remembering, side_of, remembered_on}
 use Rattle.coupler.specs.Step.{Coupler, from_ip, Heard, read_by, after, heard, outcome_by, sent_by, HandedOn, memory_after, frame, nothing}
 use Rattle.coupler.specs.declared.Memory.{Memory}
 use Rattle.coupler.specs.declared.Outcome.{Outcome}
-use Rattle.frame.proofs.Numbers.{refused-number}
 use Rattle.frame.specs.declared.Meaning.{Meaning}
 use Rattle.frame.specs.declared.Refusal.{Refusal}
 use Rattle.frame.specs.declared.Refusal.TheVariants.{WrongSetting, NoTable, OutOfRange}
@@ -150,32 +149,33 @@ remembered-block block s side n k =
 
 -- the block that the code leaves is the memory of the step inside: a remembered frame fits its half
 pub memory-block : (k : Coupler) (remembered block s : List ℕ) (h : Heard) → length block ≡ 530 → Octets block → ((m : Meaning) (p : List ℕ) → h ≡ frame m p → from_ip k ≡ false → length s ≤ 263)
-    → cond (eqb (outcome_by k remembered s h).number 0 && not (from_ip k)) (remembered_at (start_of k.setting.side) s block) block ≡ block_of (memory_after k (memory_in block) s h)
+    → cond (is_none (outcome_by k remembered s h).refusal && not (from_ip k)) (remembered_at (start_of k.setting.side) s block) block ≡ block_of (memory_after k (memory_in block) s h)
 memory-block k remembered block s (frame m p) n o size = go (from_ip k) refl
   where
     go : (b : Bool) → from_ip k ≡ b → cond (not (from_ip k)) (remembered_at (start_of k.setting.side) s block) block ≡ block_of (cond (from_ip k) (memory_in block) (remembered_on (memory_in block) k.setting.side s))
     go true e = rw e (unchanged-block block n o)
     go false e = rw e (remembered-block block s k.setting.side n (size m p refl e) o)
-memory-block k remembered block s (nothing r) n o size = rw (refused-number r) (unchanged-block block n o)
+memory-block k remembered block s (nothing r) n o size = unchanged-block block n o
 
 pub right-block : (settings block : List ℕ) → lent_right settings block ≡ true → length block ≡ 530
 right-block settings block e = eqb-true (length block) 530 (and-true (are_settings settings) (eqb (length block) 530) e).1
 
--- handing on with the frame that a side's half holds, and putting the frame there by the outcome's number, is the step inside
-pub stepped : (k : Coupler) (block s : List ℕ) {room room' block' : List ℕ} {o : Outcome} {start n answer : ℕ} → length block ≡ 530 → Octets block → Octets s
+-- handing on with the frame that a side's half holds, and putting the frame there by the outcome's refusal, is the step inside
+pub stepped : (k : Coupler) (block s : List ℕ) (fine : Bool) {ip : Bool} {room room' block' : List ℕ} {o : Outcome} {start n answer : ℕ} → length block ≡ 530 → Octets block → Octets s
     → start ≡ start_of k.setting.side → n ≡ kept_in block start
     → HandedOn k (take n (drop (start + 2) block)) s room o room'
-    → block' ≡ cond (eqb o.number 0 && not (from_ip k)) (remembered_at start s block) block
+    → is_some o.refusal ≡ not fine → ip ≡ from_ip k
+    → block' ≡ cond (fine && not ip) (remembered_at start s block) block
     → answer ≡ outcome_number o
     → SteppedThrough true k block s room answer block' room'
 unfolding heard_through
-stepped k block s {room} {room'} {block'} {o} {start} {n} size ob os es en x eb ea =
+stepped k block s fine {ip} {room} {room'} {block'} {o} {start} {n} size ob os es en x f g eb ea =
     let q : take n (drop (start + 2) block) ≡ recalled (side_of (memory_in block) k.setting.side) = rw (en, es) (recalled-block block k.setting.side size) in
     let y : HandedOn k (recalled (side_of (memory_in block) k.setting.side)) s room o room' = subst (λ (l : List ℕ). HandedOn k l s room o room') q x in
     record {
       answered = ea ∙ ap outcome_number y.outcome;
       left = y.left;
-      memory = eb ∙ rw (y.outcome, es) (memory-block k (recalled (side_of (memory_in block) k.setting.side)) block s (heard k s (length room)) size ob (λ m p e f. heard-size k s (length room) m p os e f));
+      memory = rw (none-told o.refusal fine f, g) at eb ∙ rw (y.outcome, es) (memory-block k (recalled (side_of (memory_in block) k.setting.side)) block s (heard k s (length room)) size ob (λ m p e f. heard-size k s (length room) m p os e f));
     }
 
 -- a number that is no side is refused, whichever it is: by 15, 18 or 14, the first that applies

@@ -23,7 +23,8 @@ use Rattle.coupler.specs.declared.Memory.{Memory}
 use Rattle.coupler.specs.declared.Outcome.{Outcome}
 use Rattle.coupler.specs.declared.Remembered.{Remembered}
 use Rattle.frame.proofs.Valid.{ranges-of}
-use Rattle.frame.specs.Answers.{Numbered}
+use Rattle.frame.proofs.Numbers.{refusal-back}
+use Rattle.frame.specs.Answers.{Numbered, refusal_in}
 use Rattle.frame.specs.declared.Meaning.{Meaning}
 use Rattle.frame.specs.declared.Refusal.{Refusal}
 use Rattle.frame.specs.declared.Refusal.TheVariants.{OutOfRange}
@@ -139,7 +140,8 @@ outcome-read o n e =
     let value : (place : ℕ) → get_or (outcome_from n).values place 0 ≡ get_or (outcome_numbered o).values place 0 = λ place. ap (λ (x : Numbered). get_or x.values place 0) e in
     let told = ap (λ (a : ℕ). cond (eqb a 0xCC) Acknowledged Silence) (value 0) ∙ acknowledged o.acknowledgement in
     let own = ap (λ (b : ℕ). eqb b 1) (value 1) ∙ weighed o.own in
-    λ i. record { number = ap (λ (x : Numbered). x.number) e i; acknowledgement = told i; own = own i; forwarded = value 2 i }
+    let refusal = ap (λ (x : Numbered). refusal_in x.number) e ∙ refusal-back o.refusal in
+    λ i. record { refusal = refusal i; acknowledgement = told i; own = own i; forwarded = value 2 i }
   where
     acknowledged : (a : Acknowledgement) → cond (eqb (acknowledgement_number a) 0xCC) Acknowledged Silence ≡ a
     acknowledged Silence = refl

@@ -13,6 +13,7 @@ use Rattle.coupler.specs.Step.{Coupler, Heard, frame, nothing, heard, to_ip, is_
 use Rattle.coupler.specs.declared.Outcome.{Outcome}
 use Rattle.coupler.specs.declared.Setting.{Setting}
 use Rattle.frame.proofs.Numbers.{number-listed}
+use Rattle.frame.specs.Answers.{refusal_number}
 use Rattle.frame.proofs.Valid.{most-payload}
 use Rattle.frame.specs.Refusals.{last_number}
 use Rattle.frame.specs.declared.Meaning.{Meaning}
@@ -26,14 +27,14 @@ use Rattle.tp1.proofs.LayoutLaws.{head-most, length-octets}
 
 outcome_fields : Outcome → List Field
 outcome_fields o =
-    8 holding o.number
+    8 holding refusal_number o.refusal
     ∷ 8 holding acknowledgement_number o.acknowledgement
     ∷ 1 holding weigh o.own 1
     ∷ 15 holding 0
     ∷ 32 holding o.forwarded
     ∷ []
 
-module _ (o : Outcome) (n : o.number ≤ last_number) (h : o.forwarded ≤ 270) where
+module _ (o : Outcome) (n : refusal_number o.refusal ≤ last_number) (h : o.forwarded ≤ 270) where
   outcome-fit : Fit (outcome_fields o)
   unfolding outcome_fields
   outcome-fit = (omega arith, (acknowledgement-fits o.acknowledgement, (bit-fits o.own, (omega arith, (omega arith, tt)))))
@@ -42,7 +43,7 @@ module _ (o : Outcome) (n : o.number ≤ last_number) (h : o.forwarded ≤ 270) 
   unfolding outcome_number outcome_fields
   outcome-packed = omega arith
 
-  outcome-number : number_in (outcome_number o) ≡ o.number
+  outcome-number : number_in (outcome_number o) ≡ refusal_number o.refusal
   unfolding outcome_fields
   outcome-number = read_back (outcome_fields o) (outcome_number o) outcome-fit outcome-packed 0 (omega arith)
 
@@ -82,7 +83,7 @@ at-most-270 k remembered s room o = go (heard k s room) refl
     go (frame m p) e = if-most (is_forwarded k (repeats k remembered s) m) (form_of (to_ip k) k.setting m p) (form-most (to_ip k) k.setting m p (most-payload m (length p) (heard-valid k s room m p o e).ranges))
     go (nothing r) e = omega arith
 
-numbered-most : (k : Coupler) (remembered s : List ℕ) (h : Heard) → (outcome_by k remembered s h).number ≤ last_number
+numbered-most : (k : Coupler) (remembered s : List ℕ) (h : Heard) → refusal_number (outcome_by k remembered s h).refusal ≤ last_number
 numbered-most k remembered s (frame m p) = omega arith
 numbered-most k remembered s (nothing q) = (number-listed q).1
 
@@ -90,8 +91,8 @@ outcome-answer : (k : Coupler) (remembered s : List ℕ) (h : Heard) → (outcom
     → TellsParts 64 outcome_from (outcome_number (outcome_by k remembered s h)) (outcome_numbered (outcome_by k remembered s h)) (λ r. h ≡ nothing r)
 outcome-answer k remembered s h most =
     let o : Outcome = outcome_by k remembered s h in
-    let listed : o.number ≤ last_number = numbered-most k remembered s h in
-    let e : number_in (outcome_number o) ≡ o.number = outcome-number o listed most in
+    let listed : refusal_number o.refusal ≤ last_number = numbered-most k remembered s h in
+    let e : number_in (outcome_number o) ≡ refusal_number o.refusal = outcome-number o listed most in
     record {
       fits = outcome_fits o listed most;
       decoded = outcome-decoded o listed most;

@@ -5,6 +5,7 @@ use Rattle.std.specs.Prelude.{ℕ, ◌+◌, ◌*◌, ◌%◌, ◌^◌, ◌≡◌
 use Rattle.octets.specs.Octets.{octet_at, weigh}
 use Rattle.octets.specs.Word.{high, low, word_at}
 use Rattle.octets.specs.Room.{over}
+use Rattle.frame.specs.Answers.{refusal_number}
 use Rattle.frame.specs.declared.Refusal.TheVariants.{OutOfRange}
 use Rattle.coupler.specs.declared.Outcome.{Outcome}
 use Rattle.coupler.specs.declared.Remembered.{Remembered}
@@ -42,7 +43,7 @@ coupler_set settings side table = coupler_by (setting_in settings side) (codes_i
 
 -- bits 0 to 7 the number, 8 to 15 the acknowledgement, 16 for itself, 32 to 47 the octets forwarded (no step sends more than 270)
 unfoldable pub outcome_number : Outcome → ℕ
-outcome_number o = o.number + acknowledgement_number o.acknowledgement * 2 ^ 8 + weigh o.own 1 * 2 ^ 16 + o.forwarded % 65536 * 2 ^ 32
+outcome_number o = refusal_number o.refusal + acknowledgement_number o.acknowledgement * 2 ^ 8 + weigh o.own 1 * 2 ^ 16 + o.forwarded % 65536 * 2 ^ 32
 
 -- a block of settings by its size
 abbrev pub are_settings : List ℕ → Bool

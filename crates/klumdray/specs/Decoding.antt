@@ -7,7 +7,7 @@ use Rattle.coupler.specs.declared.Outcome.{Outcome}
 use Rattle.exchange.specs.Answers.{received_numbered}
 use Rattle.exchange.specs.declared.Received.TheVariants.{Delivered}
 use Rattle.exchange.specs.declared.Received.{Received}
-use Rattle.frame.specs.Answers.{Numbered}
+use Rattle.frame.specs.Answers.{Numbered, refusal_number, refusal_in}
 use Rattle.frame.specs.Refusals.{number}
 use Rattle.frame.specs.declared.Refusal.{Refusal}
 use Rattle.octets.specs.Octets.{octet_at, weigh}
@@ -195,7 +195,7 @@ explanation_from n = numbered_by n (cond (eqb (reason_in n) 0) [] (reason_in n �
 
 -- "The step's result: number, acknowledgement or none, for itself or not, octets forwarded (0 if none)."
 abbrev pub outcome_numbered : Outcome → Numbered
-outcome_numbered o = record { number = o.number; values = acknowledgement_number o.acknowledgement ∷ weigh o.own 1 ∷ o.forwarded ∷ [] }
+outcome_numbered o = record { number = refusal_number o.refusal; values = acknowledgement_number o.acknowledgement ∷ weigh o.own 1 ∷ o.forwarded ∷ [] }
 
 abbrev pub outcome_from : ℕ → Numbered
 outcome_from n = record { number = number_in n; values = acknowledgement_in n ∷ own_in n ∷ forwarded_in n ∷ [] }
@@ -203,7 +203,7 @@ outcome_from n = record { number = number_in n; values = acknowledgement_in n �
 -- the same as the outcome of a step
 abbrev pub outcome_in : ℕ → Outcome
 outcome_in n = record {
-  number = number_in n;
+  refusal = refusal_in (number_in n);
   acknowledgement = cond (eqb (acknowledgement_in n) 0xCC) Acknowledged Silence;
   own = eqb (own_in n) 1;
   forwarded = forwarded_in n;

@@ -1,11 +1,13 @@
 // The lent blocks of a coupler's settings and memory, and the outcome of a step as a number.
 ghost use Rattle.std.specs.Prelude.{◌≡◌, ◌≤◌, cond};
+ghost use Rattle.frame.specs.Answers.{refusal_number};
 ghost use Rattle.coupler.specs.Step.{acknowledgement_number};
 ghost use Rattle.klumdray.specs.Block.{are_settings, setting_in, codes_in, outcome_number};
 ghost use Rattle.klumdray.specs.Stages.{side_or_none, start_of, kept_in, remembered_at};
 
 use crate::numbers;
 use coupler::{Acknowledgement, Outcome, Setting};
+use frame::Refusal;
 
 // A block of settings by its size.
 pub(crate) fn are_settings(settings: &[u8]) -> bool
@@ -93,12 +95,18 @@ fn of_acknowledgement(acknowledgement: Acknowledgement) -> u8
     }
 }
 
+fn of_refusal(refusal: Option<Refusal>) -> u8
+    ensures { result ≡ refusal_number refusal }
+{
+    refusal.map_or(0, |refusal| refusal.number())
+}
+
 pub(crate) fn of_outcome(outcome: Outcome) -> u64
     ensures { result ≡ outcome_number outcome }
 {
-    let acknowledgement = outcome.acknowledgement;
-    let answer = of_acknowledgement(acknowledgement) as u64;
+    let number = of_refusal(outcome.refusal);
+    let answer = of_acknowledgement(outcome.acknowledgement) as u64;
     let own = octets::flag(outcome.own, 1) as u64;
     let forwarded = (outcome.forwarded % 65536) as u64;
-    outcome.number as u64 + answer * 256 + own * 65536 + forwarded * 4294967296
+    number as u64 + answer * 256 + own * 65536 + forwarded * 4294967296
 }

@@ -21,6 +21,7 @@ ghost use Rattle.klumdray.specs.Numbers.{tp1_answered, cemi_answered, routing_an
 ghost use Rattle.klumdray.specs.Traces.{explanation_number, TracedThrough, why_through};
 
 use cemi::Codes;
+use coupler::Coupler;
 use frame::Refusal;
 use site::Stores;
 
@@ -292,14 +293,16 @@ pub fn klumdray_step(
     let right = block::are_settings(settings) & (memory.len() == 530);
     if right {
         let receiving = block::side_of(side);
-        let setting = block::setting_in(settings, receiving);
-        let codes = block::codes_in(settings);
+        let coupler = Coupler {
+            setting: block::setting_in(settings, receiving),
+            codes: block::codes_in(settings),
+            table,
+        };
         let start = block::start_of(receiving);
         let from = start + 2;
         let end = from + block::kept_in(memory, start);
-        let outcome = coupler::hand_on(setting, codes, table, &memory[from..end], octets, room);
-        let ip = (receiving == 0) & (setting.medium == 1);
-        let accepted = (outcome.number == 0) & !ip;
+        let outcome = coupler.hand_on(&memory[from..end], octets, room);
+        let accepted = outcome.refusal.is_none() & !coupler.from_ip();
         block::remember_if(accepted, memory, start, octets);
         block::of_outcome(outcome)
     } else {

@@ -126,16 +126,18 @@ use Rattle.passing.proofs.may_pass.Kinds as passing-may-pass-kinds
 use Rattle.passing.proofs.may_pass.Reads as passing-may-pass-reads
 use Rattle.passing.proofs.hopped_count.Kinds as passing-hopped-count-kinds
 use Rattle.passing.proofs.hopped_count.Reads as passing-hopped-count-reads
-use Rattle.coupler.proofs.hand_on.Kinds as coupler-hand-on-kinds
-use Rattle.coupler.proofs.hand_on.Reads as coupler-hand-on-reads
+use Rattle.coupler.proofs.Coupler.from_ip.Kinds as coupler-from-ip-kinds
+use Rattle.coupler.proofs.Coupler.from_ip.Reads as coupler-from-ip-reads
+use Rattle.coupler.proofs.Coupler.hand_on.Kinds as coupler-hand-on-kinds
+use Rattle.coupler.proofs.Coupler.hand_on.Reads as coupler-hand-on-reads
 use Rattle.coupler.proofs.setting_of.Kinds as coupler-setting-of-kinds
 use Rattle.coupler.proofs.setting_of.Reads as coupler-setting-of-reads
 use Rattle.coupler.proofs.nothing_remembered.Kinds as coupler-nothing-remembered-kinds
 use Rattle.coupler.proofs.nothing_remembered.Reads as coupler-nothing-remembered-reads
-use Rattle.coupler.proofs.step.Kinds as coupler-step-kinds
-use Rattle.coupler.proofs.step.Reads as coupler-step-reads
-use Rattle.coupler.proofs.step_in_place.Kinds as coupler-step-in-place-kinds
-use Rattle.coupler.proofs.step_in_place.Reads as coupler-step-in-place-reads
+use Rattle.coupler.proofs.Coupler.step.Kinds as coupler-step-kinds
+use Rattle.coupler.proofs.Coupler.step.Reads as coupler-step-reads
+use Rattle.coupler.proofs.Coupler.step_in_place.Kinds as coupler-step-in-place-kinds
+use Rattle.coupler.proofs.Coupler.step_in_place.Reads as coupler-step-in-place-reads
 use Rattle.klumdray.proofs.klumdray_check_octet.Kinds as klumdray-check-octet-kinds
 use Rattle.klumdray.proofs.klumdray_check_octet.Reads as klumdray-check-octet-reads
 use Rattle.klumdray.proofs.klumdray_tp1_read.Kinds as klumdray-tp1-read-kinds
@@ -413,7 +415,10 @@ pub coupler-is-repetition-stated : Stated coupler-is-repetition-kinds.ps coupler
 coupler-is-repetition-stated = record { determines = λ κs args r₁ r₂ w₁ w₂ x y. (x ∙ sym y, refl); free = λ κs args. tt; whole = λ κs args r e w. refl }
 
 pub coupler-hand-on-stated : Stated coupler-hand-on-kinds.ps coupler-hand-on-kinds.r coupler-hand-on-reads.Pre coupler-hand-on-reads.Post (λ κs a. coupler-hand-on-reads.ensures κs a tt)
-coupler-hand-on-stated = record { determines = λ κs args r₁ r₂ w₁ w₂ x y. let e = handed-one x y in (e.0, λ i. (tt, (tt, (tt, (tt, (tt, (e.1 i, tt))))))); free = λ κs args. tt; whole = λ κs args r e w. refl }
+coupler-hand-on-stated = record { determines = λ κs args r₁ r₂ w₁ w₂ x y. let e = handed-one x y in (e.0, λ i. (tt, (tt, (tt, (e.1 i, tt))))); free = λ κs args. tt; whole = λ κs args r e w. refl }
+
+pub coupler-from-ip-stated : Stated coupler-from-ip-kinds.ps coupler-from-ip-kinds.r coupler-from-ip-reads.Pre coupler-from-ip-reads.Post (λ κs a. coupler-from-ip-reads.ensures κs a tt)
+coupler-from-ip-stated = record { determines = λ κs args r₁ r₂ w₁ w₂ x y. (x ∙ sym y, refl); free = λ κs args. tt; whole = λ κs args r e w. refl }
 
 pub coupler-setting-of-stated : Stated coupler-setting-of-kinds.ps coupler-setting-of-kinds.r coupler-setting-of-reads.Pre coupler-setting-of-reads.Post (λ κs a. coupler-setting-of-reads.ensures κs a tt)
 coupler-setting-of-stated = record { determines = λ κs args r₁ r₂ w₁ w₂ x y. (x ∙ sym y, refl); free = λ κs args. tt; whole = λ κs args r e w. refl }
@@ -422,10 +427,10 @@ pub coupler-nothing-remembered-stated : Stated coupler-nothing-remembered-kinds.
 coupler-nothing-remembered-stated = record { determines = λ κs args r₁ r₂ w₁ w₂ x y. (x ∙ sym y, refl); free = λ κs args. tt; whole = λ κs args r e w. refl }
 
 pub coupler-step-stated : Stated coupler-step-kinds.ps coupler-step-kinds.r coupler-step-reads.Pre coupler-step-reads.Post (λ κs a. coupler-step-reads.ensures κs a tt)
-coupler-step-stated = record { determines = λ κs args r₁ r₂ w₁ w₂ x y. let e = did-one x y in ((λ i. record { outcome = e.0 i; memory = e.1.0 i }), λ i. (tt, (tt, (tt, (tt, (tt, (e.1.1 i, tt))))))); free = λ κs args. tt; whole = λ κs args r e w. refl }
+coupler-step-stated = record { determines = λ κs args r₁ r₂ w₁ w₂ x y. let e = did-one x y in ((λ i. record { outcome = e.0 i; memory = e.1.0 i }), λ i. (tt, (tt, (tt, (e.1.1 i, tt))))); free = λ κs args. tt; whole = λ κs args r e w. refl }
 
 pub coupler-step-in-place-stated : Stated coupler-step-in-place-kinds.ps coupler-step-in-place-kinds.r coupler-step-in-place-reads.Pre coupler-step-in-place-reads.Post (λ κs a. coupler-step-in-place-reads.ensures κs a tt)
-coupler-step-in-place-stated = record { determines = λ κs args r₁ r₂ w₁ w₂ x y. let e = did-one x y in (e.0, λ i. (e.1.0 i, (tt, (tt, (tt, (tt, (e.1.1 i, tt))))))); free = λ κs args. tt; whole = λ κs args r e w. refl }
+coupler-step-in-place-stated = record { determines = λ κs args r₁ r₂ w₁ w₂ x y. let e = did-one x y in (e.0, λ i. (tt, (e.1.0 i, (tt, (e.1.1 i, tt))))); free = λ κs args. tt; whole = λ κs args r e w. refl }
 
 -- site
 

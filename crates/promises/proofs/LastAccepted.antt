@@ -1,6 +1,7 @@
 -- "Between frames each TP1 side remembers the last accepted frame that was received from it, at the start none", and R-2 over any series of
 -- steps: from either side and from IP, under settings that may change, whatever is refused between. Said of inputs and answers alone. For a
 -- step that accepts a frame from a TP1 side leaves it remembered of that side, and every other step leaves what the side remembers.
+use Rattle.std.specs.Prelude.{Option, Some, None, is_none}
 use Prim.Native.Nat.{ℕ, ◌<◌}
 use mathlib.Core.Bool.{true, false, cond, not}
 use mathlib.Core.List.{List, [], ◌∷◌, ◌++◌}
@@ -16,9 +17,9 @@ use Rattle.coupler.specs.Memory.{kept, recalled, zeros, no_memory, side_of}
 use Rattle.coupler.specs.Series.{Input, Done, Follows, is_accepted_from, last_accepted}
 use Rattle.coupler.specs.Step.{from_ip, is_allowed, Did}
 use Rattle.coupler.specs.declared.Memory.{Memory}
-use Rattle.frame.proofs.Numbers.{number-some}
 use Rattle.frame.specs.declared.Meaning.{Meaning}
-use Rattle.octets.proofs.Truth.{by_cases, and-true}
+use Rattle.frame.specs.declared.Refusal.{Refusal}
+use Rattle.octets.proofs.Truth.{never, by_cases, and-true}
 use Rattle.octets.specs.Octets.{Octets}
 use Rattle.tp1.proofs.LayoutLaws.{length-octets}
 use Rattle.promises.proofs.Demand2.{IsFrame}
@@ -45,7 +46,7 @@ module _ (m : Memory) (i : Input) (d : Done) where
   pub unchanged : Roomy m → d.memory ≡ m → ((side : ℕ) → is_accepted_from side i d ≡ false) → AfterStep m i d
   unchanged y e n = record { roomy = subst Roomy (sym e) y; recalls = λ side b. rw (n side, e) refl }
 
-  remembered : d.outcome.number ≡ 0 → from_ip i.coupler ≡ false → i.coupler.setting.side < 2 → Remembers m d.memory i.coupler.setting.side i.octets → AfterStep m i d
+  remembered : d.outcome.refusal ≡ None → from_ip i.coupler ≡ false → i.coupler.setting.side < 2 → Remembers m d.memory i.coupler.setting.side i.octets → AfterStep m i d
   remembered z e one r = record { roomy = r.roomy; recalls = recalls }
     where
       own : ℕ
@@ -64,7 +65,7 @@ module _ (m : Memory) (i : Input) (d : Done) where
   after-step y c f = go (step-ends i.coupler m i.octets i.room d.outcome d.memory d.room c f)
     where
       go : StepEnds i.coupler m i.octets i.room d.outcome d.memory d.room → AfterStep m i d
-      go (refuses r first a) = unchanged y a.remembers-as-before (λ side. rw (ne_eqb d.outcome.number 0 (λ z. number-some r (sym a.numbered ∙ z))) refl)
+      go (refuses r first a) = unchanged y a.remembers-as-before (λ side. rw a.refused refl)
       go (accepts x p h a) =
           by_cases (from_ip i.coupler) (λ e. unchanged y (a.forgets-nothing e) (λ side. rw (a.accepted, e) refl))
           (λ e.
@@ -127,12 +128,16 @@ pub data NoneOrFrame (s : List ℕ) : Type 0 where
   none : s ≡ [] → NoneOrFrame s
   some : (x : Meaning) (p : List ℕ) → IsFrame s x p → NoneOrFrame s
 
+is-none : (o : Option Refusal) → is_none o ≡ true → o ≡ None
+is-none None e = refl
+is-none (Some r) e = never (sym e)
+
 accepted-frame : (m : Memory) (i : Input) (d : Done) (side : ℕ) → Octets i.octets → Did i.coupler m i.octets i.room d.outcome d.memory d.room
     → is_accepted_from side i d ≡ true → NoneOrFrame i.octets
 accepted-frame m i d side c f e =
-    let zero = and-true (eqb d.outcome.number 0) _ e in
-    let on-tp1 : from_ip i.coupler ≡ false = not-true (from_ip i.coupler) (and-true (not (from_ip i.coupler)) _ zero.1).0 in
-    let heard = (accepts-exactly i.coupler m d.memory i.octets i.room d.room d.outcome c f).0 (eqb-true d.outcome.number 0 zero.0) in
+    let none = and-true (is_none d.outcome.refusal) _ e in
+    let on-tp1 : from_ip i.coupler ≡ false = not-true (from_ip i.coupler) (and-true (not (from_ip i.coupler)) _ none.1).0 in
+    let heard = (accepts-exactly i.coupler m d.memory i.octets i.room d.room d.outcome c f).0 (is-none d.outcome.refusal none.0) in
     some heard.meaning heard.payload (subst (IsFrameOn i.octets heard.meaning heard.payload) on-tp1 heard.hears.is)
 
 last_frame : (side : ℕ) (before : List ℕ) (m : Memory) (is : List Input) (ds : List Done) (i : Input) (d : Done) → AllOctets is → Follows m (is ++ (i ∷ [])) (ds ++ (d ∷ []))

@@ -1,6 +1,7 @@
 -- Request R-2, of every outcome, memory and room that a step's contract allows: an accepted frame marked repeated is a repetition exactly if
 -- "all octets .. agree except the repeat bit and the check octet". Octet by octet it is compared with what its side remembers; after a frame
 -- was accepted it is that frame sent again, and no other.
+use Rattle.std.specs.Prelude.{None}
 use Prim.Native.Nat.{ℕ}
 use mathlib.Core.Bool.{true, false, ◌||◌}
 use mathlib.Core.List.{List, []}
@@ -41,7 +42,7 @@ pub record Rejects (k : Coupler) (m : Memory) (s room : List ℕ) (r : Refusal) 
 
 -- the answer to a frame that address, codes and count let through: "repetition or not" it is acknowledged, and these octets are forwarded
 pub record AnsweredWith (octets room : List ℕ) (o : Outcome) (room' : List ℕ) : Type 0 where
-  pub accepted : o.number ≡ 0
+  pub accepted : o.refusal ≡ None
   pub acknowledged : acknowledgement_number o.acknowledgement ≡ 0xCC
   pub not_itself : o.own ≡ false
   pub forwarded : o.forwarded ≡ length octets
@@ -58,11 +59,11 @@ Survives k x p room o room' = AnsweredWith (forwarded_octets k x p) room o room'
 -- that leaves no choice of outcome or room
 pub answered-one : {octets room : List ℕ} {o₁ o₂ : Outcome} {room₁ room₂ : List ℕ} → AnsweredWith octets room o₁ room₁ → AnsweredWith octets room o₂ room₂ → (o₁ ≡ o₂) × (room₁ ≡ room₂)
 answered-one {o₁ = o₁} {o₂} a b =
-    let number : o₁.number ≡ o₂.number = a.accepted ∙ sym b.accepted in
+    let refusal : o₁.refusal ≡ o₂.refusal = a.accepted ∙ sym b.accepted in
     let acknowledgement : o₁.acknowledgement ≡ o₂.acknowledgement = acknowledgement-apart _ _ (a.acknowledged ∙ sym b.acknowledged) in
     let own : o₁.own ≡ o₂.own = a.not_itself ∙ sym b.not_itself in
     let forwarded : o₁.forwarded ≡ o₂.forwarded = a.forwarded ∙ sym b.forwarded in
-    ((λ i. record { number = number i; acknowledgement = acknowledgement i; own = own i; forwarded = forwarded i }), a.left ∙ sym b.left)
+    ((λ i. record { refusal = refusal i; acknowledgement = acknowledgement i; own = own i; forwarded = forwarded i }), a.left ∙ sym b.left)
 
 module _ {k : Coupler} {m : Memory} {s room : List ℕ} {o : Outcome} {m' : Memory} {room' : List ℕ} where
   -- such a step draws what its frame draws ..
@@ -232,13 +233,13 @@ module _ {k : Coupler} {m m₁ m₂ : Memory} {s t room₁ room₂ room₁' room
   repetition-exactly = again-exactly s (is-frame a) (accepted-recalled roomy a) b
 
   -- .. which draws what the first drew, but is not forwarded: "repetition or not", it is acknowledged ..
-  pub repeat-stopped : SentAgain x p y q → (o₂ ≡ record { number = 0; acknowledgement = o₁.acknowledgement; own = o₁.own; forwarded = 0 }) × (room₂' ≡ room₂)
+  pub repeat-stopped : SentAgain x p y q → (o₂ ≡ record { refusal = None; acknowledgement = o₁.acknowledgement; own = o₁.own; forwarded = 0 }) × (room₂' ≡ room₂)
   repeat-stopped g =
       let stopped = again-stopped s (is-frame a) (accepted-recalled roomy a) b g in
       let e : y ≡ repeated x = ((again-iff x y p q).1 g).0 in
       let own : o₂.own ≡ o₁.own = (draws b).itself ∙ ap (is_for_itself k) e ∙ sym (draws a).itself in
       let acknowledgement : o₂.acknowledgement ≡ o₁.acknowledgement = acknowledgement-apart _ _ (acknowledged-alike e) in
-      ((λ i. record { number = (draws b).accepted i; acknowledgement = acknowledgement i; own = own i; forwarded = stopped.0 i }), stopped.1)
+      ((λ i. record { refusal = (draws b).accepted i; acknowledgement = acknowledgement i; own = own i; forwarded = stopped.0 i }), stopped.1)
     where
       acknowledged-alike : y ≡ repeated x → acknowledgement_number o₂.acknowledgement ≡ acknowledgement_number o₁.acknowledgement
       acknowledged-alike e =

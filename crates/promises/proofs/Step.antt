@@ -1,6 +1,7 @@
 -- The coupler's step, of every outcome, memory and room that its contract allows. Of demand 1: it ends with what an accepted frame draws, or
 -- with the first refusal of the settings' and the reader's one order. Of demand 2: "A coupler forwards exactly if address, settings and hop
 -- count allow it and the frame is no repetition."
+use Rattle.std.specs.Prelude.{Some, None}
 use Prim.Native.Nat.{ℕ, ◌-◌, ◌≤◌, ◌<◌}
 use mathlib.Core.Bool.{Bool, true, false, cond, not, ◌&&◌, ◌||◌}
 use mathlib.Core.List.{List, []}
@@ -13,7 +14,7 @@ use borrow.Author.Tests.{eqb-true, eqb-false, ne_eqb}
 use Rattle.coupler.proofs.Answers.{acknowledgement-apart}
 use Rattle.coupler.proofs.Apart.{frame-nothing}
 use Rattle.coupler.proofs.Promised.{Forwardable, forwardable-iff, forwarded-iff, acknowledged-iff, remembers-main, remembers-sub, Roomy, remembered-roomy}
-use Rattle.coupler.proofs.Refusals.{number-iff}
+use Rattle.coupler.proofs.Refusals.{refusal-iff}
 use Rattle.coupler.proofs.StepLaws.{forwarded-ranged, heard-size}
 use Rattle.coupler.specs.Memory.{recalled, side_of, remembered_on}
 use Rattle.octets.proofs.Truth.{never}
@@ -23,7 +24,7 @@ use Rattle.coupler.specs.declared.Acknowledgement.TheVariants.{Silence, Acknowle
 use Rattle.coupler.specs.declared.Memory.{Memory}
 use Rattle.coupler.specs.declared.Outcome.{Outcome}
 use Rattle.coupler.specs.declared.Setting.{Setting}
-use Rattle.frame.proofs.Numbers.{number-some}
+use Rattle.frame.proofs.Apart.{none-some}
 use Rattle.frame.specs.Order.{FirstIs}
 use Rattle.frame.specs.Refusals.{number}
 use Rattle.frame.specs.Valid.{Valid}
@@ -50,7 +51,7 @@ pub record Earns (k : Coupler) (x : Meaning) : Type 0 where
 
 -- what an accepted frame draws
 pub record Draws (k : Coupler) (m : Memory) (s room : List ℕ) (x : Meaning) (p : List ℕ) (o : Outcome) (m' : Memory) (room' : List ℕ) : Type 0 where
-  pub accepted : o.number ≡ 0
+  pub accepted : o.refusal ≡ None
   -- CCh where it is earned, "otherwise no acknowledgement"
   pub acknowledged : Earns k x → acknowledgement_number o.acknowledgement ≡ 0xCC
   pub silent : (Earns k x → ⊥) → acknowledgement_number o.acknowledgement ≡ 0
@@ -65,7 +66,7 @@ pub record Draws (k : Coupler) (m : Memory) (s room : List ℕ) (x : Meaning) (p
 
 -- "On a refusal: its number, none, not, 0."; "nothing lent is written, nothing remembered changes"
 pub record Refuses (m : Memory) (room : List ℕ) (r : Refusal) (o : Outcome) (m' : Memory) (room' : List ℕ) : Type 0 where
-  pub numbered : o.number ≡ number r
+  pub refused : o.refusal ≡ Some r
   pub silent : acknowledgement_number o.acknowledgement ≡ 0
   pub not_itself : o.own ≡ false
   pub sends-nothing : o.forwarded ≡ 0
@@ -118,7 +119,7 @@ module _ (k : Coupler) (m : Memory) (s room : List ℕ) where
       go (nothing r) e =
           let a : o ≡ outcome_by k (remembered_by k m) s (nothing r) = d.handed.outcome ∙ ap (outcome_by k (remembered_by k m) s) e in
           refuses r ((refuses-iff k s (length room) r).0 e) (record {
-            numbered = ap (λ (u : Outcome). u.number) a;
+            refused = ap (λ (u : Outcome). u.refusal) a;
             silent = ap (λ (u : Outcome). acknowledgement_number u.acknowledgement) a;
             not_itself = ap (λ (u : Outcome). u.own) a;
             sends-nothing = ap (λ (u : Outcome). u.forwarded) a;
@@ -157,10 +158,10 @@ module _ (k : Coupler) (m : Memory) (s room : List ℕ) where
 
     draws-one : (o₁ ≡ o₂) × ((m₁ ≡ m₂) × (room₁ ≡ room₂))
     draws-one =
-        let n : o₁.number ≡ o₂.number = a.accepted ∙ sym b.accepted in
+        let n : o₁.refusal ≡ o₂.refusal = a.accepted ∙ sym b.accepted in
         let c : o₁.acknowledgement ≡ o₂.acknowledgement = acknowledgement-apart _ _ one-acknowledgement in
         let i : o₁.own ≡ o₂.own = a.itself ∙ sym b.itself in
-        ((λ j. record { number = n j; acknowledgement = c j; own = i j; forwarded = one-forwarding.0 j }), (one-memory, one-forwarding.1))
+        ((λ j. record { refusal = n j; acknowledgement = c j; own = i j; forwarded = one-forwarding.0 j }), (one-memory, one-forwarding.1))
 
   -- the statement leaves no choice: two ends of a step coincide in result, memory and room
   pub step-one : {o₁ o₂ : Outcome} {m₁ m₂ : Memory} {room₁ room₂ : List ℕ} → Octets s → StepEnds k m s room o₁ m₁ room₁ → StepEnds k m s room o₂ m₂ room₂ → (o₁ ≡ o₂) × ((m₁ ≡ m₂) × (room₁ ≡ room₂))
@@ -174,11 +175,11 @@ module _ (k : Coupler) (m : Memory) (s room : List ℕ) where
   step-one {o₁} {o₂} c (refuses r f a) (refuses q g b) =
       let e : nothing r ≡ nothing q = sym ((refuses-iff k s (length room) r).1 f) ∙ (refuses-iff k s (length room) q).1 g in
       let z : r ≡ q = cc in
-      let n : o₁.number ≡ o₂.number = a.numbered ∙ ap number z ∙ sym b.numbered in
+      let n : o₁.refusal ≡ o₂.refusal = a.refused ∙ ap Some z ∙ sym b.refused in
       let l : o₁.acknowledgement ≡ o₂.acknowledgement = acknowledgement-apart _ _ (a.silent ∙ sym b.silent) in
       let i : o₁.own ≡ o₂.own = a.not_itself ∙ sym b.not_itself in
       let w : o₁.forwarded ≡ o₂.forwarded = a.sends-nothing ∙ sym b.sends-nothing in
-      ((λ j. record { number = n j; acknowledgement = l j; own = i j; forwarded = w j }), (a.remembers-as-before ∙ sym b.remembers-as-before, a.writes_nothing ∙ sym b.writes_nothing))
+      ((λ j. record { refusal = n j; acknowledgement = l j; own = i j; forwarded = w j }), (a.remembers-as-before ∙ sym b.remembers-as-before, a.writes_nothing ∙ sym b.writes_nothing))
 
 -- a frame with these properties is heard
 pub record HearsOne (k : Coupler) (s : List ℕ) (room : ℕ) (Has : Meaning → Type 0) : Type 0 where
@@ -224,20 +225,20 @@ module _ (k : Coupler) (m m' : Memory) (s room room' : List ℕ) (o : Outcome) (
       to (nothing r) e z = absurd (omega (arith, ap (λ (u : Outcome). acknowledgement_number u.acknowledgement) (outcome-of _ e), z))
 
   -- each number exactly in its listed case: 0 if a frame is heard, another if its refusal is the first of the one order
-  pub accepts-exactly : o.number ≡ 0 ↔ HearsOne k s (length room) (λ x. Unit {0})
+  pub accepts-exactly : o.refusal ≡ None ↔ HearsOne k s (length room) (λ x. Unit {0})
   accepts-exactly = (
     (λ z. to (heard k s (length room)) refl z),
-    (λ w. ap (λ (u : Outcome). u.number) (outcome-of _ (frame-heard w))),
+    (λ w. ap (λ (u : Outcome). u.refusal) (outcome-of _ (frame-heard w))),
   )
     where
-      to : (h : Heard) → heard k s (length room) ≡ h → o.number ≡ 0 → HearsOne k s (length room) (λ x. Unit {0})
+      to : (h : Heard) → heard k s (length room) ≡ h → o.refusal ≡ None → HearsOne k s (length room) (λ x. Unit {0})
       to (frame x p) e z = record { meaning = x; payload = p; hears = (hears-iff k s (length room) x p c).0 e; has = tt }
-      to (nothing r) e z = absurd (number-some r (sym (ap (λ (u : Outcome). u.number) (outcome-of _ e)) ∙ z))
+      to (nothing r) e z = none-some (sym z ∙ ap (λ (u : Outcome). u.refusal) (outcome-of _ e))
 
-  pub refuses-exactly : (r : Refusal) → o.number ≡ number r ↔ FirstIs (step_tests k s (length room)) r
+  pub refuses-exactly : (r : Refusal) → o.refusal ≡ Some r ↔ FirstIs (step_tests k s (length room)) r
   refuses-exactly r = (
-    (λ z. (refuses-iff k s (length room) r).0 ((number-iff k (remembered_by k m) s (heard k s (length room)) r).0 (sym (ap (λ (u : Outcome). u.number) d.handed.outcome) ∙ z))),
-    (λ f. ap (λ (u : Outcome). u.number) (outcome-of _ ((refuses-iff k s (length room) r).1 f))),
+    (λ z. (refuses-iff k s (length room) r).0 ((refusal-iff k (remembered_by k m) s (heard k s (length room)) r).0 (sym (ap (λ (u : Outcome). u.refusal) d.handed.outcome) ∙ z))),
+    (λ f. ap (λ (u : Outcome). u.refusal) (outcome-of _ ((refuses-iff k s (length room) r).1 f))),
   )
 
 -- "Afterwards the accepted frame is the remembered one": what its side then recalls is the octets received, and the other side is as it was

@@ -1,12 +1,12 @@
 -- Document 01, "Telegrams to check against": the cases marked P; and those that document 02 adds, R-2's and R-4's. As one list.
-use Rattle.std.specs.Prelude.{ℕ, ◌/◌, true, false, cond, List, [], ◌∷◌, ◌++◌, map, ◌≡◌, eqb, ℤ, pos, negsuc, length, take, replicate, Result, Ok, Err}
+use Rattle.std.specs.Prelude.{ℕ, ◌/◌, true, false, cond, List, [], ◌∷◌, ◌++◌, map, ◌≡◌, eqb, ℤ, pos, negsuc, length, take, replicate, Result, Ok, Err, None, is_none}
 use Rattle.passing.specs.Passing.{table_octet, table_bit}
 use Rattle.coupler.specs.Setting.{setting_of}
 use Rattle.coupler.specs.Memory.{no_memory}
 use Rattle.coupler.specs.Series.{Input, Done, series}
 use Rattle.coupler.specs.Step.{Coupler, coupler_by, outcome_of, sent, acknowledgement_number}
 use Rattle.frame.specs.Order.{first_of}
-use Rattle.frame.specs.Answers.{Numbered, accepted, meaning_values}
+use Rattle.frame.specs.Answers.{Numbered, accepted, meaning_values, refusal_number}
 use Rattle.frame.specs.declared.Refusal.TheVariants.{WrongCheck}
 use Rattle.leak.specs.Answers.{signed_values, value_numbered, coded_numbered, added_numbered}
 use Rattle.leak.specs.Reading.{read_code}
@@ -65,7 +65,7 @@ does k s = sends (acknowledgement_number (outcome_of k [] s 272).acknowledgement
 
 -- an accepted frame, and what becomes of it
 abbrev pub Handles : Coupler → List ℕ → Does → Type 0
-Handles k s d = ((outcome_of k [] s 272).number ≡ 0) × (does k s ≡ d)
+Handles k s d = ((outcome_of k [] s 272).refusal ≡ None) × (does k s ≡ d)
 
 -- each of a series of frames in a room of 272, and what becomes of each
 abbrev pub given : Coupler → List (List ℕ) → List Input
@@ -73,9 +73,9 @@ given k = map (λ s. record { coupler = k; octets = s; room = replicate 272 0 })
 
 abbrev pub doing : Done → Does
 doing d =
-    cond (eqb d.outcome.number 0)
+    cond (is_none d.outcome.refusal)
     (sends (acknowledgement_number d.outcome.acknowledgement) (take d.outcome.forwarded d.room))
-    (refuses d.outcome.number)
+    (refuses (refusal_number d.outcome.refusal))
 
 -- the verdict on a query with empty stores and a room of 768, and what is listed
 abbrev pub asked : Query → List ℕ → Result (Unit {0}) Refusal

@@ -1,15 +1,13 @@
 // The coupler's step: one coupler, and one frame after the other.
 use crate::lists::{self, Items};
 use crate::text::OctetsText;
-use coupler::{Acknowledgement, Memory, Outcome, Setting};
+use coupler::{Acknowledgement, Coupler, Memory, Outcome};
 use std::{array, fmt, io};
 
 // A coupler as a row sets it up, and the frames that it remembers.
 #[derive(Drop)]
 struct Device<'a> {
-    setting: Setting,
-    codes: [[u8; 4]; 2],
-    table: &'a [u8],
+    coupler: Coupler<'a>,
     memory: Memory,
 }
 
@@ -22,22 +20,17 @@ impl<'a> Device<'a> {
         let side = octets::octet(setting, 9);
         let medium = octets::octet(setting, 10);
         Device {
-            setting: coupler::setting_of(line, side, medium),
-            codes: [down, up],
-            table,
+            coupler: Coupler {
+                setting: coupler::setting_of(line, side, medium),
+                codes: [down, up],
+                table,
+            },
             memory: coupler::nothing_remembered(),
         }
     }
 
     fn step(&mut self, frame: &[u8], room: &mut [u8]) -> Outcome {
-        coupler::step_in_place(
-            &mut self.memory,
-            self.setting,
-            self.codes,
-            self.table,
-            frame,
-            room,
-        )
+        self.coupler.step_in_place(&mut self.memory, frame, room)
     }
 }
 
@@ -63,8 +56,8 @@ impl fmt::Display for OutcomeText<'_> {
     // All that an outcome says, on a refusal too: "its number, none, not, 0".
     fn fmt<W: fmt::Write>(&self, f: &mut fmt::Formatter<W>) -> fmt::Result {
         let outcome = self.outcome;
-        if 0 < outcome.number {
-            write!(f, "refused {} ", outcome.number)?;
+        if let Some(refusal) = outcome.refusal {
+            write!(f, "refused {} ", refusal.number())?;
         }
         let acknowledgement = match outcome.acknowledgement {
             Acknowledgement::Acknowledged => "acknowledged",

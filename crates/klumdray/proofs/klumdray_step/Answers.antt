@@ -21,8 +21,8 @@ returns-then-right c =
     let hand_on = c.hand_on-outcome in
     let kept_in = c.kept_in in
     let start_of_lem = c.start_of-start in
-    let codes-in = c.codes_in-codes in
-    let setting-in = c.setting_in-setting in
+    let codes-in = c.codes_in in
+    let setting-in = c.setting_in in
     let side-of = c.side_of-receiving in
     let if1 = c.if-right in
     let are-settings = c.are_settings in
@@ -33,8 +33,8 @@ returns-then-right c =
     let from = start_of_lem.result + 2 in
     let held : from + kept_in.result - from ≡ kept_in.result = omega arith in
     let handed = rw (setting-in.ensures, codes-in.ensures, held) at hand_on.ensures in
-    let kept = rw setting-in.ensures at remember-if.ensures in
-    let done = stepped k _ _ size (λ i. (c.slice_known-1.given i).fits) (λ i. (c.type_inv.octets i).fits) start_of_lem.ensures.0 kept_in.ensures.0 handed kept c.of_outcome.ensures in
+    let from-ip = rw setting-in.ensures at c.from_ip.ensures in
+    let done = stepped k _ _ c.is_none.result size (λ i. (c.slice_known-1.given i).fits) (λ i. (c.type_inv.octets i).fits) start_of_lem.ensures.0 kept_in.ensures.0 handed c.is_none.ensures from-ip remember-if.ensures c.of_outcome.ensures in
     rw right (side-kept a.settings.now a.table.now _ _ a.side side-of.result side-of.ensures done)
 
 pub returns-else-right : goal.returns-else-right

@@ -4,4 +4,4 @@ use Rattle.klumdray.proofs.block.of_outcome.Goals as goal
 
 pub returns : goal.returns
 unfolding outcome_number
-returns c = rw (c.of_acknowledgement-answer.ensures, c.flag-own.ensures)
+returns c = rw (c.of_refusal-number.ensures, c.of_acknowledgement-answer.ensures, c.flag-own.ensures)

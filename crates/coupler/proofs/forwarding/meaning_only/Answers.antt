@@ -1,8 +1,0 @@
--- Each arm knows its case of the answer.
-use Rattle.coupler.proofs.forwarding.meaning_only.Goals as goal
-
-pub returns-in-Err : goal.returns-in-Err
-returns-in-Err c = rw c.in-Err.is
-
-pub returns-in-Ok : goal.returns-in-Ok
-returns-in-Ok c = rw c.in-Ok.is

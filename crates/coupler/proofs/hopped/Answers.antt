@@ -1,5 +1,0 @@
--- The hop rule, as `hopped_count` ensures it.
-use Rattle.coupler.proofs.hopped.Goals as goal
-
-pub returns : goal.returns
-returns c = c.hopped_count.ensures
