@@ -6,21 +6,19 @@ use mathlib.Core.Bool.{Bool, true, false, not, cond, ◌&&◌}
 use mathlib.Core.List.{List}
 use mathlib.Core.Path.{◌≡◌, refl, sym, ap, ◌∙◌, subst}
 use native.Mathlib.Omega.{arith}
-use lib.Dec.{eqb}
-use lib.ListN.{length, take, drop}
+use lib.ListN.{length, drop}
 use borrow.Author.Tests.{ltb-false}
 use Rattle.cemi.specs.Writing.{message_in_range}
 use Rattle.cemi.specs.declared.Codes.TheVariants.{IndicationOnly}
 use Rattle.cemi.specs.declared.Message.{Message}
 use Rattle.coupler.proofs.Apart.{frame-nothing}
-use Rattle.coupler.specs.Memory.{kept, recalled, side_of, remembered_on}
+use Rattle.coupler.specs.Memory.{recalled, side_of, remembered_on}
 use Rattle.coupler.specs.Stages.{remembered_if}
 use Rattle.coupler.specs.Setting.{stays_by, hopped_by}
 use Rattle.coupler.specs.Step.{Coupler, setting_tests, from_ip, Heard, heard_tp1, heard_ip, read_by, after, heard, repeats, forwarded_meaning, indication, form_of, sent_of, accepted_outcome, refused_outcome, outcome_by, sent_by, HandedOn, memory_after, Did, frame, nothing}
 use Rattle.coupler.specs.Stages.{Sent, PassedOn, HandedBy}
 use Rattle.coupler.specs.declared.Memory.{Memory}
 use Rattle.coupler.specs.declared.Outcome.{Outcome}
-use Rattle.coupler.specs.declared.Remembered.{Remembered}
 use Rattle.coupler.specs.declared.Setting.{Setting}
 use Rattle.frame.proofs.Order.{passed-iff}
 use Rattle.frame.proofs.Valid.{ranges-of, ranged, most-payload}

@@ -1,5 +1,5 @@
 -- One coupler step: document 01, "The coupler".
-use Rattle.std.specs.Prelude.{ℕ, ◌≡◌, List, [], ◌∷◌, ◌++◌, Bool, true, false, cond, not, ◌&&◌, ◌||◌, length, ltb, eqb, Result, Ok, Err, Option, Some, None}
+use Rattle.std.specs.Prelude.{ℕ, ◌≡◌, List, [], ◌∷◌, ◌++◌, Bool, true, false, cond, not, ◌&&◌, ◌||◌, length, ltb, eqb, Result, Ok, Err, Some, None}
 use Rattle.octets.specs.Octets.{weigh}
 use Rattle.octets.specs.Room.{over}
 use Rattle.frame.specs.declared.Meaning.{Meaning}
