@@ -22,7 +22,7 @@ pub struct Setting {
 }
 
 // A coupler: its numbers, its codes by direction and class, its filter table.
-#[derive(Clone, Copy)]
+#[derive(Clone, Copy, PartialEq, Eq, Debug)]
 pub struct Coupler<'a> {
     pub setting: Setting,
     pub codes: [[u8; 4]; 2],
@@ -37,7 +37,7 @@ pub enum Acknowledgement {
 }
 
 // "The step's result: number, acknowledgement or none, for itself or not, octets forwarded (0 if none)." The number is the refusal's.
-#[derive(Clone, Copy)]
+#[derive(Clone, Copy, PartialEq, Eq, Debug)]
 pub struct Outcome {
     pub refusal: Option<Refusal>,
     pub acknowledgement: Acknowledgement,
@@ -46,19 +46,19 @@ pub struct Outcome {
 }
 
 // The last accepted frame of a TP1 side; size 0 is none. A buffer with its size, as a lent block has it, for there is no heap.
-#[derive(Clone, Copy)]
+#[derive(Clone, Copy, PartialEq, Eq, Debug)]
 pub struct Remembered {
     pub size: usize,
     pub octets: [u8; 263],
 }
 
-#[derive(Clone, Copy)]
+#[derive(Clone, Copy, PartialEq, Eq, Debug)]
 pub struct Memory {
     pub main: Remembered,
     pub sub: Remembered,
 }
 
-#[derive(Clone, Copy)]
+#[derive(Clone, Copy, PartialEq, Eq, Debug)]
 pub struct Stepped {
     pub outcome: Outcome,
     pub memory: Memory,

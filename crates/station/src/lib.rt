@@ -7,7 +7,7 @@ ghost use Rattle.station.specs.Taking.{telegram_of, telegram_by, telegram_in, su
 use frame::{Meaning, Refusal};
 
 // What a frame is to the station: an increment of the total, or why it adds nothing.
-#[derive(Clone, Copy)]
+#[derive(Clone, Copy, PartialEq, Eq, Debug)]
 pub enum Telegram {
     Increment(u16),
     Repetition,
@@ -16,7 +16,7 @@ pub enum Telegram {
 }
 
 // What the frame was, and the total afterwards.
-#[derive(Clone, Copy)]
+#[derive(Clone, Copy, PartialEq, Eq, Debug)]
 pub struct Tally {
     pub telegram: Result<Telegram, Refusal>,
     pub total: i64,
