@@ -3,10 +3,11 @@
 -- Determined: `free` of each `-stated`, and the proofs of the functions themselves. Here: which answer or refusal, by its number and values,
 -- and what a refusal leaves.
 use Rattle.std.specs.Prelude.{Result, Ok, Err}
+use Rattle.frame.proofs.Apart.{err-ok}
 use Prim.Native.Nat.{ℕ, ◌≤◌}
 use mathlib.Core.Bool.{Bool}
 use mathlib.Core.List.{List, [], ◌∷◌, ◌++◌}
-use mathlib.Core.Path.{◌≡◌, refl, ap, ◌∙◌}
+use mathlib.Core.Path.{◌≡◌, refl, sym, ap, ◌∙◌}
 use lib.ListN.{length, drop}
 use Rattle.cemi.specs.Answers.{message_values, cemi_numbered}
 use Rattle.cemi.specs.Reading.{body, message_in, cemi_tests, read_cemi, payload_in, information_in}
@@ -141,25 +142,20 @@ pub site-ends : (st : Stores) (site : List ℕ) → EndsNumbered [] (site_tests 
 site-ends st site = ends_by refused (accepted []) verdict_numbered refl (λ r. refl) (site_tests st site)
 
 -- the tracer: whatever the site, the stores, the query and the room; a refusal has no line and no forwarding ..
-abbrev pub refused_trace : Refusal → Traced
-refused_trace r = record { number = number r; lines = 0; forwardings = 0 }
-
 abbrev pub accepted_trace : Stores → List ℕ → Query → Traced
-accepted_trace st site q = record { number = 0; lines = lines_listed st site q; forwardings = forwardings st site q }
+accepted_trace st site q = record { lines = lines_listed st site q; forwardings = forwardings st site q }
 
-module _ (st : Stores) (site : List ℕ) (q : Query) (room room' : List ℕ) (answer : Traced) (d : DidTrace st site q room answer room') where
-  pub trace-ends : Ends refused_trace (accepted_trace st site q) (trace_tests st site q (length room)) answer
-  trace-ends = rw d.answered (ends_by refused_trace (accepted_trace st site q) (traced_by st site q) refl (λ r. refl) (trace_tests st site q (length room)))
+module _ (st : Stores) (site : List ℕ) (q : Query) (room room' : List ℕ) (answer : Result Traced Refusal) (d : DidTrace st site q room answer room') where
+  pub trace-ends : Ends Err (Ok (accepted_trace st site q)) (trace_tests st site q (length room)) answer
+  trace-ends = rw d.answered (ends_by Err (Ok (accepted_trace st site q)) (traced_by st site q) refl (λ r. refl) (trace_tests st site q (length room)))
 
   -- .. and leaves the room as it was
-  pub trace-refused : (answer.number ≡ 0 → ⊥) → (room' ≡ room) × ((answer.lines ≡ 0) × (answer.forwardings ≡ 0))
-  trace-refused n = go (first_of (trace_tests st site q (length room))) refl
+  pub trace-refused : (r : Refusal) → answer ≡ Err r → room' ≡ room
+  trace-refused r n = go (first_of (trace_tests st site q (length room))) refl
     where
-      go : (v : Result (Unit {0}) Refusal) → first_of (trace_tests st site q (length room)) ≡ v → (room' ≡ room) × ((answer.lines ≡ 0) × (answer.forwardings ≡ 0))
-      go (Ok _) e = absurd (n (ap (λ (u : Traced). u.number) (d.answered ∙ ap (traced_by st site q) e)))
-      go (Err r) e =
-          let a : answer ≡ traced_by st site q (Err r) = d.answered ∙ ap (traced_by st site q) e in
-          (d.left ∙ ap (λ (v : Result (Unit {0}) Refusal). over (list_by st site q v) room) e, (ap (λ (u : Traced). u.lines) a, ap (λ (u : Traced). u.forwardings) a))
+      go : (v : Result (Unit {0}) Refusal) → first_of (trace_tests st site q (length room)) ≡ v → room' ≡ room
+      go (Ok _) e = err-ok (sym n ∙ d.answered ∙ ap (traced_by st site q) e)
+      go (Err _) e = d.left ∙ ap (λ (v : Result (Unit {0}) Refusal). over (list_by st site q v) room) e
 
 -- its explanation: nothing of a line that is reached; otherwise the reason's number, the coupler's line and the direction of travel
 pub why-ends : (st : Stores) (site : List ℕ) (q : Query) (line : ℕ) → EndsNumbered (explanation_numbered (why_of st site q line)).values (why_tests st site q) (explanation_numbered (answer_why st site q line))

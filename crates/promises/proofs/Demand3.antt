@@ -35,7 +35,7 @@ use Rattle.tracer.proofs.RoomList.{Rising, octets_of, rising-one, listed_at, lis
 use Rattle.tracer.specs.Answers.{explanation_numbered}
 use Rattle.tracer.specs.Lines.{main_side, Crossing, path, distance}
 use Rattle.tracer.specs.Query.{on_arrival}
-use Rattle.tracer.specs.Listing.{is_listed, crossing_passes, all_pass, listed, lines_listed}
+use Rattle.tracer.specs.Listing.{is_listed, crossing_passes, all_pass, listed, lines_listed, forwardings}
 use Rattle.tracer.specs.declared.Query.{Query}
 use Rattle.tracer.specs.Query.{is_query}
 use Rattle.tracer.specs.Tracing.{trace_tests, traced_by, list_by, DidTrace}
@@ -56,21 +56,22 @@ abbrev pub line_octets : Query → ℕ → List ℕ
 line_octets q line = line ∷ on_arrival q (length (path q.start line)) ∷ length (path q.start line) ∷ []
 
 -- what a planner signs for
-pub record Signed (st : Stores) (site : List ℕ) (q : Query) (room : List ℕ) (answer : Traced) (room' : List ℕ) : Type 0 where
+pub record Signed (st : Stores) (site : List ℕ) (q : Query) (room : List ℕ) (answer : Result Traced Refusal) (room' : List ℕ) : Type 0 where
   -- nothing is refused
-  pub accepts : answer.number ≡ 0
+  pub traced : Traced
+  pub accepts : answer ≡ Ok traced
   -- the room has the octets of these lines, one line's behind the other's; "Lent octets behind the list stay."
   pub lines : List ℕ
-  pub written : room' ≡ octets_of (line_octets q) lines ++ drop (3 * answer.lines) room
-  pub counted : answer.lines ≡ length lines
+  pub written : room' ≡ octets_of (line_octets q) lines ++ drop (3 * traced.lines) room
+  pub counted : traced.lines ≡ length lines
   -- each once, in rising order
   pub rising : Rising lines
   -- exactly the lines, of "all 256", that the telegram reaches
   pub exactly : (line : ℕ) → is_among line lines ≡ true ↔ ((line < 256) × Reachable st site q line)
   -- "The starting line is always listed, with distance 0."
-  pub starts : (i : ℕ) × ((i < answer.lines) × (take 3 (drop (3 * i) room') ≡ q.start ∷ q.count ∷ 0 ∷ []))
+  pub starts : (i : ℕ) × ((i < traced.lines) × (take 3 (drop (3 * i) room') ≡ q.start ∷ q.count ∷ 0 ∷ []))
   -- "the number of forwardings made on the site, which is the number of listed lines less one"
-  pub forwarded : answer.forwardings ≡ answer.lines - 1
+  pub forwarded : traced.forwardings ≡ traced.lines - 1
 
 start-octets : (q : Query) → line_octets q q.start ≡ q.start ∷ q.count ∷ 0 ∷ []
 start-octets q = rw (path-same, arrival-none q) refl
@@ -78,17 +79,16 @@ start-octets q = rw (path-same, arrival-none q) refl
 start-reachable : (st : Stores) (site : List ℕ) (q : Query) → Reachable st site q q.start
 start-reachable st site q = rw path-same (refl, inr (omega arith))
 
-signs : (st : Stores) (site : List ℕ) (q : Query) (room room' : List ℕ) (answer : Traced) → NoneOf (site_tests st site) → is_query q ≡ true → q.start < 256 → 768 ≤ length room
+signs : (st : Stores) (site : List ℕ) (q : Query) (room room' : List ℕ) (answer : Result Traced Refusal) → NoneOf (site_tests st site) → is_query q ≡ true → q.start < 256 → 768 ≤ length room
     → DidTrace st site q room answer room' → Signed st site q room answer room'
 signs st site q room room' answer w a b h d =
     let ts = trace_tests st site q (length room) in
     let v : first_of ts ≡ (Ok tt) = (passed-iff ts).1 (rw a refl, (le-ltb (length room) 768 h, w)) in
-    let t : answer ≡ traced_by st site q (Ok tt) = d.answered ∙ ap (traced_by st site q) v in
     let ls = lines_on st site q in
-    let n : answer.lines ≡ lines_listed st site q = ap (λ (u : Traced). u.lines) t in
-    let c : answer.lines ≡ length ls = n ∙ lines-count st site q in
-    let rest = drop (3 * answer.lines) room in
-    let size : length (listed st site q) ≡ 3 * answer.lines = omega (arith, trace-three-each st site q, n) in
+    let t : Traced = record { lines = lines_listed st site q; forwardings = forwardings st site q } in
+    let c : t.lines ≡ length ls = lines-count st site q in
+    let rest = drop (3 * t.lines) room in
+    let size : length (listed st site q) ≡ 3 * t.lines = omega (arith, trace-three-each st site q) in
     let e : room' ≡ octets_of (line_octets q) ls ++ rest =
     d.left
     ∙ ap (λ (x : Result (Unit {0}) Refusal). over (list_by st site q x) room) v
@@ -96,30 +96,31 @@ signs st site q room room' answer w a b h d =
     ∙ ap (λ (l : List ℕ). l ++ rest) (lines-octets st site q) in
     let x = listed_at q.start ls ((lines_are st site q q.start).1 (b, start-reachable st site q)) (line_octets q) (λ n. refl) rest in
     record {
-      accepts = ap (λ (u : Traced). u.number) t;
+      traced = t;
+      accepts = d.answered ∙ ap (traced_by st site q) v;
       lines = ls;
       written = e;
       counted = c;
       rising = lines-rise st site q;
       exactly = lines_are st site q;
       starts = (x.0, (omega (arith, c, x.1.0), ap (λ (l : List ℕ). take 3 (drop (3 * x.0) l)) e ∙ x.1.1 ∙ start-octets q));
-      forwarded = ap (λ (u : Traced). u.forwardings) t ∙ trace-less-one st site q b ∙ ap (λ (k : ℕ). k - 1) (sym n);
+      forwarded = trace-less-one st site q b;
     }
 
 -- nothing is left out: one answer and one room have it all
-pub signed-one : {st : Stores} {site : List ℕ} {q : Query} {room room' room'' : List ℕ} {a b : Traced} → Signed st site q room a room' → Signed st site q room b room'' → (a ≡ b) × (room' ≡ room'')
+pub signed-one : {st : Stores} {site : List ℕ} {q : Query} {room room' room'' : List ℕ} {a b : Result Traced Refusal} → Signed st site q room a room' → Signed st site q room b room'' → (a ≡ b) × (room' ≡ room'')
 signed-one {q = q} {room = room} {a = a} {b = b} s t =
     let l : s.lines ≡ t.lines = rising-one s.lines t.lines s.rising t.rising (λ n. Iff.trans (s.exactly n) (Iff.symm (t.exactly n))) in
-    let n : a.lines ≡ b.lines = s.counted ∙ ap length l ∙ sym t.counted in (
-      same_answer a b (s.accepts ∙ sym t.accepts) n (s.forwarded ∙ ap (λ (k : ℕ). k - 1) n ∙ sym t.forwarded),
-      s.written ∙ ap (λ (k : ℕ). octets_of (line_octets q) s.lines ++ drop (3 * k) room) n ∙ ap (λ (x : List ℕ). octets_of (line_octets q) x ++ drop (3 * b.lines) room) l ∙ sym t.written,
+    let n : s.traced.lines ≡ t.traced.lines = s.counted ∙ ap length l ∙ sym t.counted in (
+      s.accepts ∙ ap Ok (same_answer s.traced t.traced n (s.forwarded ∙ ap (λ (k : ℕ). k - 1) n ∙ sym t.forwarded)) ∙ sym t.accepts,
+      s.written ∙ ap (λ (k : ℕ). octets_of (line_octets q) s.lines ++ drop (3 * k) room) n ∙ ap (λ (x : List ℕ). octets_of (line_octets q) x ++ drop (3 * t.traced.lines) room) l ∙ sym t.written,
     )
   where
-    same_answer : (x y : Traced) → x.number ≡ y.number → x.lines ≡ y.lines → x.forwardings ≡ y.forwardings → x ≡ y
-    same_answer x y i j k = λ z. record { number = i z; lines = j z; forwardings = k z }
+    same_answer : (x y : Traced) → x.lines ≡ y.lines → x.forwardings ≡ y.forwardings → x ≡ y
+    same_answer x y j k = λ z. record { lines = j z; forwardings = k z }
 
 -- "well-formed exactly if it and its stores draw none of 15 to 18": the contract of the trace allows exactly what is signed for
-pub lists-exactly : (st : Stores) (site : List ℕ) (q : Query) (room room' : List ℕ) (answer : Traced) → NoneOf (site_tests st site) → is_query q ≡ true → q.start < 256 → 768 ≤ length room
+pub lists-exactly : (st : Stores) (site : List ℕ) (q : Query) (room room' : List ℕ) (answer : Result Traced Refusal) → NoneOf (site_tests st site) → is_query q ≡ true → q.start < 256 → 768 ≤ length room
     → DidTrace st site q room answer room' ↔ Signed st site q room answer room'
 lists-exactly st site q room room' answer w a b h = (
   signs st site q room room' answer w a b h,

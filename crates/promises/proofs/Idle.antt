@@ -1,6 +1,7 @@
 -- Document 01: "These idle programs have to be shut out". A program is any function that meets the contract of its call; each theorem shows
 -- that none of the kind named does, from the case or the demand that the paper names beside it.
 use Rattle.std.specs.Prelude.{Result, Ok}
+use Rattle.frame.proofs.Apart.{ok-one}
 use Prim.Native.Nat.{ℕ, zero, suc, ◌-◌, ◌≤◌, ◌<◌}
 use mathlib.Core.Bool.{true, false}
 use mathlib.Core.List.{List, [], ◌∷◌}
@@ -185,7 +186,7 @@ repeats-its-first-answer steps meets h = go (steps no_memory is) (meets no_memor
 
 -- what a trace leaves: its answer and the room
 pub record TraceLeft : Type 0 where
-  pub answer : Traced
+  pub answer : Result Traced Refusal
   pub room : List ℕ
 
 unfoldable lent768 : List ℕ
@@ -207,7 +208,7 @@ module _ (trace : Stores → List ℕ → Query → List ℕ → TraceLeft)
     abbrev traced : TraceLeft
     traced = trace (stores [] []) (four_couplers 2) query_p12 lent768
 
-    answer-p12 : traced.answer ≡ record { number = 0; lines = 4; forwardings = 3 }
+    answer-p12 : traced.answer ≡ Ok (record { lines = 4; forwardings = 3 })
     answer-p12 =
         (meets (stores [] []) (four_couplers 2) query_p12 lent768).answered
         ∙ ap (λ (n : ℕ). traced_by (stores [] []) (four_couplers 2) query_p12 (first_of (trace_tests (stores [] []) (four_couplers 2) query_p12 n))) lent768-size
@@ -219,13 +220,13 @@ module _ (trace : Stores → List ℕ → Query → List ℕ → TraceLeft)
         ∙ ap (λ (n : ℕ). over (list_by (stores [] []) (four_couplers 2) query_p12 (first_of (trace_tests (stores [] []) (four_couplers 2) query_p12 n))) lent768) lent768-size
         ∙ ap (λ (l : List ℕ). over l lent768) p12.1
 
-    pub lists-the-starting-line-only : ((st : Stores) (site : List ℕ) (q : Query) (room : List ℕ) → (trace st site q room).answer.number ≡ 0 → (trace st site q room).answer.lines ≡ 1) → ⊥
+    pub lists-the-starting-line-only : ((st : Stores) (site : List ℕ) (q : Query) (room : List ℕ) (t : Traced) → (trace st site q room).answer ≡ Ok t → t.lines ≡ 1) → ⊥
     lists-the-starting-line-only h =
-        omega (arith, ap (λ (t : Traced). t.lines) answer-p12, h (stores [] []) (four_couplers 2) query_p12 lent768 (ap (λ (t : Traced). t.number) answer-p12))
+        omega (arith, h (stores [] []) (four_couplers 2) query_p12 lent768 _ answer-p12)
 
-    pub lists-all-lines : ((st : Stores) (site : List ℕ) (q : Query) (room : List ℕ) → (trace st site q room).answer.number ≡ 0 → (trace st site q room).answer.lines ≡ 256) → ⊥
+    pub lists-all-lines : ((st : Stores) (site : List ℕ) (q : Query) (room : List ℕ) (t : Traced) → (trace st site q room).answer ≡ Ok t → t.lines ≡ 256) → ⊥
     lists-all-lines h =
-        omega (arith, ap (λ (t : Traced). t.lines) answer-p12, h (stores [] []) (four_couplers 2) query_p12 lent768 (ap (λ (t : Traced). t.number) answer-p12))
+        omega (arith, h (stores [] []) (four_couplers 2) query_p12 lent768 _ answer-p12)
 
 -- "invented crossings or forwardings (demand 3: path length, listed lines less one)": on no well-formed site and no query does what is told of a
 -- listed line or of the forwardings differ from these
@@ -241,16 +242,18 @@ module _ (trace : Stores → List ℕ → Query → List ℕ → TraceLeft)
     passed = (passed-iff (trace_tests st site q (length room))).1 (rw asks refl, (le-ltb (length room) 768 large, well))
 
     -- three octets of the list tell of a line another number of couplers crossed than its path has
-    pub invents-crossings : (line count crossed : ℕ) → StandsIn left.room left.answer.lines line count crossed → (crossed ≡ length (path q.start line) → ⊥) → ⊥
+    pub invents-crossings : (t : Traced) → left.answer ≡ Ok t → (line count crossed : ℕ) → StandsIn left.room t.lines line count crossed → (crossed ≡ length (path q.start line) → ⊥) → ⊥
     unfolding distance
-    invents-crossings line count crossed s other =
-        let lines : left.answer.lines ≡ lines_listed st site q = ap (λ (t : Traced). t.lines) ((meets st site q room).answered ∙ ap (traced_by st site q) passed) in
+    invents-crossings t is line count crossed s other =
+        let lines : t.lines ≡ lines_listed st site q = ap (λ (t : Traced). t.lines) (ok-one (sym is ∙ (meets st site q room).answered ∙ ap (traced_by st site q) passed)) in
         let front : left.room ≡ over (listed st site q) room = (meets st site q room).left ∙ ap (λ (v : Result (Unit {0}) Refusal). over (list_by st site q v) room) passed in
-        let told = (stands-iff st site q room line count crossed).0 (subst (λ (n : ℕ). StandsIn (over (listed st site q) room) n line count crossed) lines (subst (λ (l : List ℕ). StandsIn l left.answer.lines line count crossed) front s)) in
+        let told = (stands-iff st site q room line count crossed).0 (subst (λ (n : ℕ). StandsIn (over (listed st site q) room) n line count crossed) lines (subst (λ (l : List ℕ). StandsIn l t.lines line count crossed) front s)) in
         other (sym told.1.crosses)
 
-    pub invents-forwardings : (left.answer.forwardings ≡ left.answer.lines - 1 → ⊥) → ⊥
-    invents-forwardings n = n ((lists-exactly st site q room left.room left.answer well asks small large).0 (meets st site q room)).forwarded
+    pub invents-forwardings : (t : Traced) → left.answer ≡ Ok t → (t.forwardings ≡ t.lines - 1 → ⊥) → ⊥
+    invents-forwardings t is n =
+        let s = (lists-exactly st site q room left.room left.answer well asks small large).0 (meets st site q room) in
+        n (subst (λ (t : Traced). t.forwardings ≡ t.lines - 1) (ok-one (sym s.accepts ∙ is)) s.forwarded)
 
 -- "Round trips speak of demand 2's layouts, so a writer that keeps its own private form fails."
 

@@ -180,10 +180,10 @@ module _ (st : Stores) (site : List ℕ) (q : Query) (room : List ℕ) (answer :
   trace-back = trace-told st site q w
 
   -- a trace that is not refused is the trace inside, of the numbers as they are given
-  pub trace-is-inside : number_in answer ≡ 0 → DidTrace st site q room (record { number = 0; lines = lines_in answer; forwardings = forwardings_in answer }) room'
+  pub trace-is-inside : number_in answer ≡ 0 → DidTrace st site q room (Ok (record { lines = lines_in answer; forwardings = forwardings_in answer })) room'
   trace-is-inside z = go verdict refl
     where
-      go : (v : Result (Unit {0}) Refusal) → verdict ≡ v → DidTrace st site q room (record { number = 0; lines = lines_in answer; forwardings = forwardings_in answer }) room'
+      go : (v : Result (Unit {0}) Refusal) → verdict ≡ v → DidTrace st site q room (Ok (record { lines = lines_in answer; forwardings = forwardings_in answer })) room'
       go (Ok _) e =
           let fits : query_fits q ≡ true = not-false (query_fits q) ((passed-iff (trace_through_tests st site q (length room))).0 e).0 in
           let inside : Ok tt ≡ first_of (trace_tests st site q (length room)) = sym (trace-inside st site q (length room) fits ∙ e) in

@@ -87,7 +87,7 @@ Holds (k hears s and d) = Handles k s d
 Holds (k hears-in-turn ss and ds) = map doing (series no_memory (given k ss)) ≡ ds
 Holds (bit g is b of o) = (table_bit g ≡ b) × (table_octet g ≡ o)
 Holds (q on site lists l by n) =
-    (traced_by (stores [] []) site q (asked q site) ≡ record { number = 0; lines = length l / 3; forwardings = n }) × (list_by (stores [] []) site q (asked q site) ≡ l)
+    (traced_by (stores [] []) site q (asked q site) ≡ Ok (record { lines = length l / 3; forwardings = n })) × (list_by (stores [] []) site q (asked q site) ≡ l)
 Holds (code c is n) = value_numbered (read_code c) ≡ n
 Holds (hundredths z are n) = coded_numbered (write_code z) ≡ n
 Holds (total t with c is n) = added_numbered (add_to t c) ≡ n
