@@ -21,7 +21,7 @@ use Rattle.knxnetip.proofs.HeaderLaws.{headed, header-laid, header-back}
 use Rattle.knxnetip.specs.Header.{header_tests}
 use Rattle.octets.proofs.Split.{firsts-drop}
 use Rattle.octets.specs.Octets.{octet_at, Octets}
-use Rattle.frame.proofs.Order.{results-differ}
+use Rattle.frame.proofs.Apart.{ok-one}
 use Rattle.tunnelling.proofs.Refusals.{request-accepted-iff, acknowledgement-accepted-iff}
 use Rattle.tunnelling.specs.Layout.{request_service, acknowledgement_service, connected_head, connected, request_octets, acknowledgement_octets}
 use Rattle.tunnelling.specs.Reading.{channel_in, counter_in, status_in, message, is_other_connection, connection_tests, connected_tests, read_request, request_message, acknowledgement_tests, read_acknowledgement}
@@ -112,7 +112,7 @@ request-payload x p = ap (payload_in (Ok x.message)) (request-message x p) ∙ p
 pub request-stays : (s : List ℕ) (x y : Request) (q : List ℕ) → ValidMessage All y.message q → s ≡ request_octets y.channel y.counter y.message q → read_request s ≡ Ok x
     → request_octets x.channel x.counter x.message (payload_in (Ok x.message) (request_message (Ok x) s)) ≡ s
 request-stays s x y q v e r =
-    let same : y ≡ x = results-differ.answer-one y x (sym (request-read y q v) ∙ ap read_request (sym e) ∙ r) in
+    let same : y ≡ x = ok-one (sym (request-read y q v) ∙ ap read_request (sym e) ∙ r) in
     let handed : payload_in (Ok y.message) (request_message (Ok y) s) ≡ q = ap (λ (t : List ℕ). payload_in (Ok y.message) (request_message (Ok y) t)) e ∙ request-payload y q in
     ap (λ (z : Request). request_octets z.channel z.counter z.message (payload_in (Ok z.message) (request_message (Ok z) s))) (sym same)
     ∙ ap (request_octets y.channel y.counter y.message) handed
