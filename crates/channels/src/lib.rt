@@ -69,9 +69,11 @@ impl Table {
         let Some(at) = number.checked_sub(1) else {
             return Channel::closed();
         };
-        match self.channels.get(at as usize) {
-            Some(channel) => *channel,
-            None => Channel::closed(),
+        // An index, and no `get`: an Option<&Channel> is misread on the 32-bit boards (tools/library-for).
+        if (at as usize) < CHANNELS {
+            self.channels[at as usize]
+        } else {
+            Channel::closed()
         }
     }
 
