@@ -37,7 +37,8 @@ impl Channel {
     {
         Channel {
             opened: true,
-            ..Channel::closed()
+            receive: 0,
+            send: 0,
         }
     }
 
