@@ -8,14 +8,14 @@ ghost use Rattle.channels.specs.Table.{many, closed, fresh, all_closed, channel_
 pub const CHANNELS: usize = 4;
 
 // A channel that was never open has counters 0.
-#[derive(Clone, Copy, Debug, PartialEq, Eq)]
+#[derive(Clone, Copy, PartialEq, Eq, Debug)]
 pub struct Channel {
     pub opened: bool,
     pub receive: u8,
     pub send: u8,
 }
 
-#[derive(Clone, Copy, Debug, PartialEq, Eq)]
+#[derive(Clone, Copy, PartialEq, Eq, Debug)]
 pub struct Table {
     pub channels: [Channel; CHANNELS],
 }

@@ -19,14 +19,14 @@ use frame::Refusal;
 use tunnelling::{Request, TUNNELLING_ACK};
 
 // What becomes of a request: delivered, acknowledged again and not delivered, or refused.
-#[derive(Clone, Copy)]
+#[derive(Clone, Copy, PartialEq, Eq, Debug)]
 pub enum Received {
     Delivered(Request),
     Again,
 }
 
 // What becomes of an acknowledgement: the send counter raised, or kept under another status than 00h; or refused.
-#[derive(Clone, Copy)]
+#[derive(Clone, Copy, PartialEq, Eq, Debug)]
 pub enum Confirmed {
     Raised,
     Kept,

@@ -18,20 +18,21 @@ pub const TUNNELLING_REQUEST: u16 = 0x0420;
 
 pub const TUNNELLING_ACK: u16 = 0x0421;
 
-#[derive(Clone, Copy)]
+#[derive(Clone, Copy, PartialEq, Eq, Debug)]
 pub struct Request {
     pub channel: u8,
     pub counter: u8,
     pub message: Message,
 }
 
-#[derive(Clone, Copy)]
+#[derive(Clone, Copy, PartialEq, Eq, Debug)]
 pub struct Acknowledgement {
     pub channel: u8,
     pub counter: u8,
     pub status: u8,
 }
 
+#[tactic(auto, unfolding(crate::specs::Reading::is_other_connection))]
 fn is_other_connection(octets: &[u8]) -> bool
     ensures { result ≡ is_other_connection octets.now }
 {
@@ -39,6 +40,7 @@ fn is_other_connection(octets: &[u8]) -> bool
 }
 
 // The tests of the connection header, behind the header's.
+#[tactic(auto, unfolding(crate::specs::Stages::judge_connection))]
 fn judge_connection(octets: &[u8]) -> Result<(), Refusal>
     ensures { result ≡ judge_connection octets.now }
 {
@@ -76,10 +78,7 @@ pub fn read_request(octets: &[u8]) -> Result<Request, Refusal>
 pub fn message(answer: Result<Request, Refusal>, octets: &[u8]) -> &[u8]
     ensures { PartAt octets.entry result (request_message_at answer octets.now) (request_message answer octets.now) }
 {
-    let Ok(_) = answer else {
-        return &octets[..0];
-    };
-    if octets.len() < 10 {
+    if answer.is_err() || octets.len() < 10 {
         return &octets[..0];
     }
     &octets[10..]
