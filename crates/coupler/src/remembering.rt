@@ -5,6 +5,7 @@ ghost use Rattle.coupler.specs.Stages.{remembered_if};
 
 use crate::{Memory, Remembered};
 
+#[tactic(auto, unfolding(crate::specs::Memory::zeros))]
 pub(crate) fn none() -> Remembered
     ensures { result ≡ no_frame }
 {
