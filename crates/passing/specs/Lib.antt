@@ -1,3 +1,4 @@
 pub mod Settings
+pub mod Classes
 pub mod Passing
 pub mod Answers

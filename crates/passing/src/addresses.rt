@@ -1,23 +1,35 @@
 // Addresses: their classes, the coupler's own, and what code 1 asks of each class.
 ghost use Rattle.std.specs.Prelude.{◌≡◌, ◌<◌};
 ghost use Rattle.passing.specs.Settings.{class_of};
+ghost use Rattle.passing.specs.Classes.{class_number};
 ghost use Rattle.passing.specs.Passing.{is_own, is_in_table, is_below, is_onward, is_ruled, ruled_out};
 
 use crate::{Address, Filter, Passage};
 
-pub(crate) fn class_of(address: Address) -> usize
-    ensures { (result ≡ class_of address.kind address.destination) × (result < 4) }
+// The classes of addresses, each with a column of codes of its own.
+#[derive(Clone, Copy, PartialEq, Eq, Debug)]
+pub(crate) enum Class {
+    Individual,
+    Broadcast,
+    Lower,
+    Upper,
+}
+
+pub(crate) fn class_of(address: Address) -> Class
+    ensures { class_number result ≡ class_of address.kind address.destination }
 {
-    if address.kind == 1 {
-        if address.destination == 0 {
-            1
-        } else if address.destination < 0x7000 {
-            2
+    let Address { kind, destination } = address;
+    if kind == 1 {
+        if destination == 0 {
+            return Class::Broadcast;
+        }
+        if destination < 0x7000 {
+            Class::Lower
         } else {
-            3
+            Class::Upper
         }
     } else {
-        0
+        Class::Individual
     }
 }
 
@@ -56,27 +68,30 @@ fn is_onward(line: u8, direction: u8, destination: u16) -> bool
 pub(crate) fn is_ruled<'a>(
     filter: Filter<'a>,
     direction: u8,
-    class: usize,
+    class: Class,
     destination: u16,
 ) -> bool
-    ensures { result ≡ is_ruled filter.entry.line filter.entry.table.now direction class destination }
+    ensures { result ≡ is_ruled filter.entry.line filter.entry.table.now direction (class_number class) destination }
 {
-    if class == 0 {
-        return is_onward(filter.line, direction, destination);
+    match class {
+        Class::Individual => is_onward(filter.line, direction, destination),
+        Class::Broadcast => false,
+        Class::Lower | Class::Upper => is_in_table(filter.table, destination),
     }
-    let groups = (class == 2) | (class == 3);
-    groups & is_in_table(filter.table, destination)
 }
 
 // Which of the reasons of code 1 it is.
-pub(crate) fn ruled_out(direction: u8, class: usize) -> Passage
-    ensures { result ≡ ruled_out direction class }
+pub(crate) fn ruled_out(direction: u8, class: Class) -> Passage
+    ensures { result ≡ ruled_out direction (class_number class) }
 {
-    if class == 0 {
-        if direction == 0 {
-            return Passage::NotBelow;
+    match class {
+        Class::Individual => {
+            if direction == 0 {
+                Passage::NotBelow
+            } else {
+                Passage::NotAbove
+            }
         }
-        return Passage::NotAbove;
+        Class::Broadcast | Class::Lower | Class::Upper => Passage::NotInTable,
     }
-    Passage::NotInTable
 }

@@ -1,35 +1,42 @@
 // The setting codes and the filter table's size: which are allowed.
 ghost use Rattle.std.specs.Prelude.{◌≡◌, ◌<◌};
+ghost use Rattle.passing.specs.Classes.{class_number};
 ghost use Rattle.passing.specs.Settings.{code_in, is_code, is_row, are_codes, asks_table, table_fits};
 
+use crate::addresses::Class;
+
 // The code of a direction and a class; 0 outside them.
-pub(crate) fn code_in(codes: [[u8; 4]; 2], direction: u8, class: usize) -> u8
-    requires { class < 4 }
-    ensures { result ≡ code_in codes direction class }
+pub(crate) fn code_in(codes: [[u8; 4]; 2], direction: u8, class: Class) -> u8
+    ensures { result ≡ code_in codes direction (class_number class) }
 {
     if direction < 2 {
-        let row = direction as usize;
-        codes[row][class]
+        let row = usize::from(direction);
+        codes[row][class as usize]
     } else {
         0
     }
 }
 
-fn is_code(class: u8, code: u8) -> bool
-    ensures { result ≡ is_code class code }
+fn is_code(class: Class, code: u8) -> bool
+    ensures { result ≡ is_code (class_number class) code }
 {
-    let other = (class == 1) & (code == 1);
-    (code <= 2) & !other
+    match class {
+        Class::Broadcast => (code <= 2) & (code != 1),
+        Class::Individual | Class::Lower | Class::Upper => code <= 2,
+    }
 }
 
 fn is_row(codes: [[u8; 4]; 2], direction: u8) -> bool
     ensures { result ≡ is_row codes direction }
 {
-    let individual = is_code(0, code_in(codes, direction, 0));
-    let broadcast = is_code(1, code_in(codes, direction, 1));
-    let lower = is_code(2, code_in(codes, direction, 2));
-    let upper = is_code(3, code_in(codes, direction, 3));
-    individual & broadcast & lower & upper
+    is_code(
+        Class::Individual,
+        code_in(codes, direction, Class::Individual),
+    ) & is_code(
+        Class::Broadcast,
+        code_in(codes, direction, Class::Broadcast),
+    ) & is_code(Class::Lower, code_in(codes, direction, Class::Lower))
+        & is_code(Class::Upper, code_in(codes, direction, Class::Upper))
 }
 
 pub fn are_codes(codes: [[u8; 4]; 2]) -> bool

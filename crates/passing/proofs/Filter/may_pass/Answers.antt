@@ -5,4 +5,4 @@ use Rattle.passing.proofs.Filter.may_pass.Goals as goal
 pub returns : goal.returns
 unfolding may_pass
 returns c =
-    rw (← c.class_of-class.ensures.0, ← c.code_in-code.ensures, ← c.is_own-own.ensures, ← c.is_ruled-ruled.ensures)
+    rw (← c.class_of-class.ensures, ← c.code_in-code.ensures, ← c.is_own-own.ensures, ← c.is_ruled-ruled.ensures)

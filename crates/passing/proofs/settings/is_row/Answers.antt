@@ -5,4 +5,4 @@ use Rattle.passing.proofs.settings.is_row.Goals as goal
 pub returns : goal.returns
 unfolding is_row
 returns c =
-    rw (c.is_code-individual.ensures, c.code_in.ensures, c.is_code-broadcast.ensures, c.code_in-2.ensures, c.is_code-lower.ensures, c.code_in-3.ensures, c.is_code-upper.ensures, c.code_in-4.ensures)
+    rw (c.is_code.ensures, c.code_in.ensures, c.is_code-2.ensures, c.code_in-2.ensures, c.is_code-3.ensures, c.code_in-3.ensures, c.is_code-4.ensures, c.code_in-4.ensures)
