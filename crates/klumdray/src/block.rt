@@ -29,19 +29,7 @@ pub(crate) fn setting_in(settings: &[u8], side: u8) -> Setting
 pub(crate) fn codes_in(settings: &[u8]) -> [[u8; 4]; 2]
     ensures { result ≡ codes_in settings.now }
 {
-    let down = [
-        octets::octet(settings, 1),
-        octets::octet(settings, 2),
-        octets::octet(settings, 3),
-        octets::octet(settings, 4),
-    ];
-    let up = [
-        octets::octet(settings, 5),
-        octets::octet(settings, 6),
-        octets::octet(settings, 7),
-        octets::octet(settings, 8),
-    ];
-    [down, up]
+    passing::settings::codes_from(settings, 1)
 }
 
 // A side in so many bits that the step inside takes; every number that is none is 2.

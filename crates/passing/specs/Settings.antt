@@ -1,6 +1,14 @@
 -- Document 01: "Each coupler holds two rows of four codes, one row for each direction (main to sub, sub to main): individual 0, 1, 2;
 -- broadcast 0, 2; groups 0001h to 6FFFh 0, 1, 2; groups 7000h to FFFFh 0, 1, 2."
-use Rattle.std.specs.Prelude.{ℕ, List, [], Bool, cond, not, ◌&&◌, ◌||◌, get_or, ltb, leb, eqb}
+use Rattle.octets.specs.Octets.{octet_at}
+use Rattle.std.specs.Prelude.{ℕ, ◌+◌, List, [], ◌∷◌, Bool, cond, not, ◌&&◌, ◌||◌, get_or, ltb, leb, eqb}
+
+-- "four codes main to sub, four codes sub to main", one octet each, from an index on
+abbrev pub row_from : List ℕ → ℕ → List ℕ
+row_from s start = octet_at s start ∷ octet_at s (start + 1) ∷ octet_at s (start + 2) ∷ octet_at s (start + 3) ∷ []
+
+abbrev pub codes_from : List ℕ → ℕ → List (List ℕ)
+codes_from s start = row_from s start ∷ row_from s (start + 4) ∷ []
 
 -- the code of a direction (0 main to sub, 1 sub to main) and a class of addresses
 abbrev pub code_in : List (List ℕ) → ℕ → ℕ → ℕ

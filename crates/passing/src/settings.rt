@@ -1,9 +1,29 @@
 // The setting codes and the filter table's size: which are allowed.
-ghost use Rattle.std.specs.Prelude.{◌≡◌, ◌<◌};
+ghost use Rattle.std.specs.Prelude.{◌≡◌, ◌<◌, ◌^◌};
 ghost use Rattle.passing.specs.Classes.{class_number};
-ghost use Rattle.passing.specs.Settings.{code_in, is_code, is_row, are_codes, asks_table, table_fits};
+ghost use Rattle.passing.specs.Settings.{row_from, codes_from, code_in, is_code, is_row, are_codes, asks_table, table_fits};
 
 use crate::addresses::Class;
+
+fn row_from(octets: &[u8], start: usize) -> [u8; 4]
+    requires { start < 2 ^ 32 }
+    ensures { result ≡ row_from octets.now start }
+{
+    [
+        octets::octet(octets, start),
+        octets::octet(octets, start + 1),
+        octets::octet(octets, start + 2),
+        octets::octet(octets, start + 3),
+    ]
+}
+
+// The two rows of four codes that start at an index, main to sub and sub to main.
+pub fn codes_from(octets: &[u8], start: usize) -> [[u8; 4]; 2]
+    requires { start < 256 }
+    ensures { result ≡ codes_from octets.now start }
+{
+    [row_from(octets, start), row_from(octets, start + 4)]
+}
 
 // The code of a direction and a class; 0 outside them.
 pub(crate) fn code_in(codes: [[u8; 4]; 2], direction: u8, class: Class) -> u8

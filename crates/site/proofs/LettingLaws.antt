@@ -2,14 +2,13 @@
 use Prim.Native.Nat.{ℕ, ◌+◌, ◌≤◌, ◌<◌}
 use mathlib.Core.Bool.{Bool, true, false, not, cond, ◌&&◌}
 use mathlib.Core.List.{List, [], ◌∷◌}
-use mathlib.Core.Path.{◌≡◌, refl, sym, ap, ◌∙◌}
+use mathlib.Core.Path.{◌≡◌, refl, sym, ◌∙◌}
 use native.Mathlib.Omega.{arith}
 use lib.Dec.{eqb}
 use lib.ListN.{length, get_or, set, length-set}
 use lib.Seq.{get_or-set_same, get_or-set_other, ext_get_or}
 use Rattle.passing.proofs.PassingLaws.{passes-iff}
-use Rattle.passing.specs.Settings.{class_of}
-use Rattle.passing.specs.Passing.{is_ruled, may_pass, passage_of, does_pass}
+use Rattle.passing.specs.Passing.{may_pass, passage_of, does_pass}
 use Rattle.passing.specs.declared.Passage.TheVariants.{NotFitted}
 use Rattle.passing.specs.declared.Passage.{Passage}
 use Rattle.site.proofs.RecordLaws.{by_equal}

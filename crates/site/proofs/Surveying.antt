@@ -2,7 +2,7 @@
 -- what is left decides.
 use Rattle.std.specs.Prelude.{Result, Ok, Err}
 use Prim.Native.Nat.{ℕ, suc, ◌+◌, ◌*◌, ◌≤◌, ◌<◌}
-use mathlib.Core.Bool.{Bool, true, not, cond}
+use mathlib.Core.Bool.{Bool, not, cond}
 use mathlib.Core.List.{List, [], ◌∷◌, ◌++◌}
 use mathlib.Core.Path.{◌≡◌, refl, sym, ap, ◌∙◌}
 use native.Mathlib.Omega.{arith}
@@ -12,7 +12,7 @@ use lib.Seq.{get_or-set_same, get_or-set_other, ext_get_or}
 use borrow.Author.Tests.{eq-eqb, ne_eqb}
 use Rattle.frame.proofs.Apart.{ok-err, err-ok, ok-one, err-one}
 use Rattle.frame.proofs.Order.{first-passed, first-refused, passed-iff}
-use Rattle.frame.specs.Order.{Test, first_of, ◌gives◌}
+use Rattle.frame.specs.Order.{Test, first_of}
 use Rattle.frame.specs.declared.Refusal.TheVariants.{WrongRecord}
 use Rattle.frame.specs.declared.Refusal.{Refusal}
 use Rattle.site.proofs.RecordCount.{Counted, counted_none, counted-more, counted-most}

@@ -33,19 +33,7 @@ pub(crate) fn line_of(octets: &[u8]) -> u8
 pub(crate) fn codes_of(octets: &[u8]) -> [[u8; 4]; 2]
     ensures { result ≡ codes_of octets.now }
 {
-    let down = [
-        octets::octet(octets, 3),
-        octets::octet(octets, 4),
-        octets::octet(octets, 5),
-        octets::octet(octets, 6),
-    ];
-    let up = [
-        octets::octet(octets, 7),
-        octets::octet(octets, 8),
-        octets::octet(octets, 9),
-        octets::octet(octets, 10),
-    ];
-    [down, up]
+    passing::settings::codes_from(octets, 3)
 }
 
 pub(crate) fn table_number(octets: &[u8]) -> u8
