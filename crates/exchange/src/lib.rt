@@ -18,7 +18,8 @@ use channels::{Channel, Table};
 use frame::Refusal;
 use tunnelling::{Request, TUNNELLING_ACK};
 
-// What becomes of a request: delivered, acknowledged again and not delivered, or refused.
+// What becomes of a request: delivered, acknowledged again and not delivered, or refused. No Option: `None`
+// would not say that it is acknowledged again.
 #[derive(Clone, Copy, PartialEq, Eq, Debug)]
 pub enum Received {
     Delivered(Request),
@@ -26,6 +27,7 @@ pub enum Received {
 }
 
 // What becomes of an acknowledgement: the send counter raised, or kept under another status than 00h; or refused.
+// No bool: it would not say which of the two is meant.
 #[derive(Clone, Copy, PartialEq, Eq, Debug)]
 pub enum Confirmed {
     Raised,
