@@ -1,36 +1,20 @@
 // The coupler's step: one coupler, and one frame after the other.
 use crate::lists::{self, Items};
 use crate::text::OctetsText;
-use coupler::{Acknowledgement, Coupler, Memory, Outcome};
+use coupler::{Acknowledgement, Coupler, Outcome};
 use std::{array, fmt, io};
 
-// A coupler as a row sets it up, and the frames that it remembers.
-#[derive(Drop)]
-struct Device<'a> {
-    coupler: Coupler<'a>,
-    memory: Memory,
-}
-
-impl<'a> Device<'a> {
-    // The coupler's line, four codes down, four codes up, the receiving side, and the main medium.
-    fn new(setting: &[u8], table: &'a [u8]) -> Self {
-        let down = array::from_fn(|class| octets::octet(setting, 1 + class));
-        let up = array::from_fn(|class| octets::octet(setting, 5 + class));
-        let line = octets::octet(setting, 0);
-        let side = octets::octet(setting, 9);
-        let medium = octets::octet(setting, 10);
-        Device {
-            coupler: Coupler {
-                setting: coupler::setting_of(line, side, medium),
-                codes: [down, up],
-                table,
-            },
-            memory: coupler::nothing_remembered(),
-        }
-    }
-
-    fn step(&mut self, frame: &[u8], room: &mut [u8]) -> Outcome {
-        self.coupler.step_in_place(&mut self.memory, frame, room)
+// The setting has the coupler's line, four codes down, four codes up, the receiving side, and the main medium.
+fn coupler_of<'a>(setting: &[u8], table: &'a [u8]) -> Coupler<'a> {
+    let down = array::from_fn(|class| octets::octet(setting, 1 + class));
+    let up = array::from_fn(|class| octets::octet(setting, 5 + class));
+    let line = octets::octet(setting, 0);
+    let side = octets::octet(setting, 9);
+    let medium = octets::octet(setting, 10);
+    Coupler {
+        setting: coupler::setting_of(line, side, medium),
+        codes: [down, up],
+        table,
     }
 }
 
@@ -85,11 +69,12 @@ pub(crate) fn run_steps(
     put_groups(groups, &mut filter);
     // "if there is none, the table is empty (length 0)"
     let size = if groups.is_empty() { 0 } else { 8192 };
-    let mut device = Device::new(setting, &filter[..size]);
+    let coupler = coupler_of(setting, &filter[..size]);
+    let mut memory = coupler::nothing_remembered();
     let mut room = [0; 272];
     let mut last = None;
     for frame in frames {
-        last = Some(device.step(frame, &mut room));
+        last = Some(coupler.step_in_place(&mut memory, frame, &mut room));
     }
     match last {
         Some(outcome) => out.print(OutcomeText {
