@@ -111,19 +111,17 @@ module _ (total memory : List ℕ) (group : ℕ) (s : List ℕ) where
   unfolding taken_through
   inside-not wrong = rw wrong
 
-  pub taken-fit : {total' memory' : List ℕ} {a : Tally} {t : ℤ} {g n answer : ℕ} {accepted : Bool} → is_lent total memory group ≡ true → Octets s
-      → t ≡ total_in total → g ≡ group % 65536 → n ≡ kept_in memory 0 → a ≡ taken_by t g (take n (drop 2 memory)) s
+  pub taken-fit : {total' memory' : List ℕ} {a : Tally} {t : ℤ} {n answer : ℕ} {accepted : Bool} → is_lent total memory group ≡ true → Octets s
+      → t ≡ total_in total → n ≡ kept_in memory 0 → a ≡ taken_by t group (take n (drop 2 memory)) s
       → total' ≡ taken_laid a.total a.telegram total → accepted ≡ is_accepted a.telegram
       → memory' ≡ cond accepted (remembered_at 0 s memory) memory → answer ≡ telegram_number a.telegram
       → TookFrame total memory group s answer total' memory'
-  taken-fit {a = a} {g = g} {n = n} right o et eg en ea eb ex em ew =
+  taken-fit {a = a} {n = n} right o et en ea eb ex em ew =
       let fits = lent_fits right in
-      let small : group < 65536 = fits.1.1 in
-      let same : group % 65536 ≡ group = omega arith in
       let frame : List ℕ = recalled (remembered_in memory) in
       let held : take n (drop 2 memory) ≡ frame = ap (λ (k : ℕ). take k (drop 2 memory)) en ∙ sym (half-recalled memory) in
       let inner : a ≡ taken_by (total_in total) group frame s =
-      ea ∙ ap (λ (z : ℤ). taken_by z g (take n (drop 2 memory)) s) et ∙ ap (λ (k : ℕ). taken_by (total_in total) k (take n (drop 2 memory)) s) (eg ∙ same) ∙ ap (λ (l : List ℕ). taken_by (total_in total) group l s) held in
+      ea ∙ ap (λ (z : ℤ). taken_by z group (take n (drop 2 memory)) s) et ∙ ap (λ (l : List ℕ). taken_by (total_in total) group l s) held in
       let e : a ≡ taken_through total memory group s = inner ∙ sym (inside-takes right) in
       let kept : cond (is_accepted a.telegram) (remembered_at 0 s memory) memory ≡ memory_taken a.telegram memory s =
       subst (λ (x : Tally). cond (is_accepted x.telegram) (remembered_at 0 s memory) memory ≡ memory_taken x.telegram memory s) (sym inner) (kept-as (total_in total) group frame memory s fits.1.0 o) in

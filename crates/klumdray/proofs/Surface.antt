@@ -67,27 +67,7 @@ wrote-fit {fit} {octets} {room} {after} {r} w f x e = subst (λ (b : Bool). Wrot
 pub unfit-alone : (fit : Bool) (octets room : List ℕ) → fit ≡ false → WroteNumber fit octets room 14 room
 unfit-alone fit octets room f = subst (λ (b : Bool). WroteNumber b octets room 14 room) (and_yes fit) (unfit-refused fit true octets room f)
 
--- a number that fits is its own remainder: what the inner writer is handed is what the caller gives
-
-pub octet-kept : (n : ℕ) → ltb n 256 ≡ true → n % 256 ≡ n
-octet-kept n e = omega (arith, ltb-true n 256 e)
-
-pub word_kept : (n : ℕ) → ltb n 65536 ≡ true → n % 65536 ≡ n
-word_kept n e = omega (arith, ltb-true n 65536 e)
-
--- the same of the tracer's calls
-
-pub tested-line : {fits fits' b : Bool} (line : Bool) → fits ≡ fits' → fits && line ≡ b → fits' && line ≡ b
-tested-line line e h = rw (← e) h
-
-pub query-kept : (start kind destination count : ℕ) {q : Query} → query_fits (query_of start kind destination count) ≡ true
-    → q ≡ query_of (start % 256) (kind % 256) (destination % 65536) (count % 256) → q ≡ query_of start kind destination count
-unfolding query_fits
-query-kept start kind destination count e h =
-    let three = and-true (ltb start 256 && ltb kind 256 && ltb destination 65536) (ltb count 256) e in
-    let two = and-true (ltb start 256 && ltb kind 256) (ltb destination 65536) three.0 in
-    let one = and-true (ltb start 256) (ltb kind 256) two.0 in
-    rw (octet-kept start one.0, octet-kept kind one.1, word_kept destination two.1, octet-kept count three.1) at h
+-- the tracer's calls
 
 -- where the numbers fit, the order is the inner call's
 pub trace-inside : (st : Stores) (site : List ℕ) (q : Query) (room : ℕ) → query_fits q ≡ true → first_of (trace_tests st site q room) ≡ first_of (trace_through_tests st site q room)
@@ -177,3 +157,12 @@ connected-fit channel counter status e =
     let outer = and-true (ltb channel 256 && ltb counter 256) (ltb status 256) e in
     let inner = and-true (ltb channel 256) (ltb counter 256) outer.0 in
     (ltb-true channel 256 inner.0, (ltb-true counter 256 inner.1, ltb-true status 256 outer.1))
+
+pub query-fit : (start kind destination count : ℕ) → query_fits (query_of start kind destination count) ≡ true
+    → (start < 256) × ((kind < 256) × ((destination < 65536) × (count < 256)))
+unfolding query_fits
+query-fit start kind destination count e =
+    let three = and-true (ltb start 256 && ltb kind 256 && ltb destination 65536) (ltb count 256) e in
+    let two = and-true (ltb start 256 && ltb kind 256) (ltb destination 65536) three.0 in
+    let one = and-true (ltb start 256) (ltb kind 256) two.0 in
+    (ltb-true start 256 one.0, (ltb-true kind 256 one.1, (ltb-true destination 65536 two.1, ltb-true count 256 three.1)))

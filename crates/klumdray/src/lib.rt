@@ -225,7 +225,7 @@ pub fn klumdray_tunnelling_receive(channels: &mut [u8], octets: &[u8], room: &mu
         let message = exchange::message(answer, octets);
         counters::of_received(answer, message)
     } else {
-        14
+        Refusal::OutOfRange.number() as u64
     }
 }
 
@@ -276,7 +276,7 @@ pub fn klumdray_tunnelling_confirm(channels: &mut [u8], octets: &[u8]) -> u32
         counters::raise_confirmed(answer, channel, number, channels);
         counters::of_confirmed(answer)
     } else {
-        14
+        Refusal::OutOfRange.number() as u32
     }
 }
 
@@ -306,7 +306,7 @@ pub fn klumdray_step(
         block::remember_if(accepted, memory, start, octets);
         block::of_outcome(outcome)
     } else {
-        14
+        Refusal::OutOfRange.number() as u64
     }
 }
 
@@ -322,13 +322,11 @@ pub fn klumdray_trace<'a>(
 ) -> u64
     ensures { TracedThrough (stores project.now own.now) site.now (query_of start kind destination count) room.old result room.new }
 {
-    if traces::query_fits(start, kind, destination, count) {
-        let query = traces::query_from(start, kind, destination, count);
-        let traced = tracer::trace(query, site, Stores { project, own }, room);
-        traces::of_traced(traced)
-    } else {
-        14
-    }
+    let Some(query) = traces::query_given(start, kind, destination, count) else {
+        return Refusal::OutOfRange.number() as u64;
+    };
+    let traced = tracer::trace(query, site, Stores { project, own }, room);
+    traces::of_traced(traced)
 }
 
 pub fn klumdray_why<'a>(
@@ -343,15 +341,14 @@ pub fn klumdray_why<'a>(
 ) -> u32
     ensures { result ≡ explanation_number (why_through (stores project.now own.now) site.now (query_of start kind destination count) line) }
 {
-    let fit = traces::query_fits(start, kind, destination, count) & (line < 256);
-    if fit {
-        let query = traces::query_from(start, kind, destination, count);
-        let asked = numbers::octet_of(line);
-        let explanation = tracer::why(query, site, Stores { project, own }, asked);
-        traces::of_explanation(explanation)
-    } else {
-        14
-    }
+    let Ok(line) = u8::try_from(line) else {
+        return Refusal::OutOfRange.number() as u32;
+    };
+    let Some(asked) = traces::query_given(start, kind, destination, count) else {
+        return Refusal::OutOfRange.number() as u32;
+    };
+    let explanation = tracer::why(asked, site, Stores { project, own }, line);
+    traces::of_explanation(explanation)
 }
 
 pub fn klumdray_float_value(code: u32) -> u64
@@ -402,11 +399,11 @@ pub fn klumdray_take(total: &mut [u8], memory: &mut [u8], group: u32, octets: &[
     if right {
         let held = litres::total_in(total);
         let end = 2 + block::kept_in(memory, 0);
-        let taken = station::take(held, numbers::word_of(group), &memory[2..end], octets);
+        let taken = station::take(held, group as u16, &memory[2..end], octets);
         litres::put_taken(taken, total);
         block::remember_if(litres::is_accepted(taken), memory, 0, octets);
         litres::of_taken(taken)
     } else {
-        14
+        Refusal::OutOfRange.number() as u32
     }
 }

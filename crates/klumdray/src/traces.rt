@@ -1,28 +1,33 @@
 // A caller's numbers as a query, and the tracer's answers as the numbers that cross the surface.
-ghost use Rattle.std.specs.Prelude.{◌≡◌, ◌%◌, ◌<◌};
+ghost use Rattle.std.specs.Prelude.{◌≡◌, ◌<◌};
 ghost use Rattle.tracer.specs.Query.{query_of};
 ghost use Rattle.passing.specs.Answers.{passage_number};
+ghost use Rattle.klumdray.specs.Stages.{given};
 ghost use Rattle.klumdray.specs.Traces.{query_fits, traced_number, explanation_number};
 
-use crate::numbers;
 use frame::Refusal;
 use passing::Passage;
 use tracer::{Query, Stop, Traced};
 
-pub(crate) fn query_fits(start: u32, kind: u32, destination: u32, count: u32) -> bool
+fn query_fits(start: u32, kind: u32, destination: u32, count: u32) -> bool
     ensures { result ≡ query_fits (query_of start kind destination count) }
 {
     (start < 256) & (kind < 256) & (destination < 65536) & (count < 256)
 }
 
-pub(crate) fn query_from(start: u32, kind: u32, destination: u32, count: u32) -> Query
-    ensures { result ≡ query_of (start % 256) (kind % 256) (destination % 65536) (count % 256) }
+// What a caller's numbers ask, if each is in its range. The casts lose nothing: the test stands before them.
+pub(crate) fn query_given(start: u32, kind: u32, destination: u32, count: u32) -> Option<Query>
+    ensures { result ≡ given (query_fits (query_of start kind destination count)) (query_of start kind destination count) }
 {
-    Query {
-        start: numbers::octet_of(start),
-        kind: numbers::octet_of(kind),
-        destination: numbers::word_of(destination),
-        count: numbers::octet_of(count),
+    if query_fits(start, kind, destination, count) {
+        Some(Query {
+            start: start as u8,
+            kind: kind as u8,
+            destination: destination as u16,
+            count: count as u8,
+        })
+    } else {
+        None
     }
 }
 

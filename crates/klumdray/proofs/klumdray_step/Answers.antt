@@ -38,4 +38,4 @@ returns-then-right c =
     rw right (side-kept a.settings.now a.table.now _ _ a.side side-of.result side-of.ensures done)
 
 pub returns-else-right : goal.returns-else-right
-returns-else-right c = rw (rw c.are_settings.ensures at c.if-right.false) (stepped-wrong _ _ _ _)
+returns-else-right c = rw (c.number.ensures, rw c.are_settings.ensures at c.if-right.false) (stepped-wrong _ _ _ _)

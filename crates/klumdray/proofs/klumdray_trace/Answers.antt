@@ -1,15 +1,11 @@
--- The inner trace behind the test whether the numbers fit: both arms are laws of `Surface`.
-use mathlib.Core.Path.{sym, ◌∙◌}
-use Rattle.klumdray.proofs.Surface.{query-kept, traced_fit, traced-unfit}
+-- The inner trace of what the numbers ask; numbers that ask nothing are refused before it.
+use Rattle.klumdray.proofs.Surface.{given-fits, given-none, traced_fit, traced-unfit}
 use Rattle.klumdray.proofs.klumdray_trace.Goals as goal
 
-pub returns-then-query_fits : goal.returns-then-query_fits
-returns-then-query_fits c =
-    let at-trace = c.trace-traced in
-    let query-from = c.query_from-query in
-    let fits = sym c.query_fits.ensures ∙ c.if-query_fits.true in
-    let done = rw (query-kept _ _ _ _ fits query-from.ensures) at at-trace.ensures in
-    traced_fit _ _ _ fits done c.of_traced.ensures
+pub returns-in_default : goal.returns-in_default
+returns-in_default c = rw c.number.ensures (traced-unfit _ _ _ _ (given-none _ _ c.query_given.ensures c.in_default.is))
 
-pub returns-else-query_fits : goal.returns-else-query_fits
-returns-else-query_fits c = traced-unfit _ _ _ _ (sym c.query_fits.ensures ∙ c.if-query_fits.false)
+pub returns : goal.returns
+returns c =
+    let fit = given-fits _ c.query_given.ensures c.in-Some.is in
+    traced_fit _ _ _ fit.0 (rw fit.1 at c.trace-traced.ensures) c.of_traced.ensures

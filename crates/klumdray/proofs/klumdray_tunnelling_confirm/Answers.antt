@@ -10,4 +10,4 @@ returns-then-are_channels c =
     confirmed-fit a.channels.now a.octets.now right c.octet-number.ensures c.channel_in-channel.ensures c.confirm_on-answer.ensures c.raise_confirmed.ensures c.of_confirmed.ensures
 
 pub returns-else-are_channels : goal.returns-else-are_channels
-returns-else-are_channels c = confirmed-unfit _ _ (sym c.are_channels.ensures ∙ c.if-are_channels.false)
+returns-else-are_channels c = rw c.number.ensures (confirmed-unfit _ _ (sym c.are_channels.ensures ∙ c.if-are_channels.false))

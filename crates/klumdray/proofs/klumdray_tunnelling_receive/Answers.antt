@@ -10,4 +10,4 @@ returns-then-are_channels c =
     took-fit a.channels.now a.octets.now a.room.now right c.octet-number.ensures c.channel_in-channel.ensures c.receive_on-answer.ensures c.raise_received.ensures c.message-message.ensures.holds c.of_received.ensures
 
 pub returns-else-are_channels : goal.returns-else-are_channels
-returns-else-are_channels c = took-unfit _ _ _ (sym c.are_channels.ensures ∙ c.if-are_channels.false)
+returns-else-are_channels c = rw c.number.ensures (took-unfit _ _ _ (sym c.are_channels.ensures ∙ c.if-are_channels.false))

@@ -1,20 +1,26 @@
--- The inner explanation behind the test whether the numbers fit: both arms are laws of `Surface`.
-use mathlib.Core.Path.{◌∙◌}
+-- The inner explanation of what the numbers ask; a line of more bits, and numbers that ask nothing, are refused before it.
+use mathlib.Core.Path.{refl}
+use native.Mathlib.Omega.{arith}
 use lib.Dec.{ltb}
-use Rattle.klumdray.proofs.Surface.{octet-kept, tested-line, query-kept, why-fit, why-unfit}
-use Rattle.octets.proofs.Truth.{and-true}
+use borrow.Author.Tests.{lt-ltb, le-ltb}
+use Rattle.klumdray.proofs.Surface.{given-fits, given-none, why-fit, why-unfit}
+use Rattle.klumdray.specs.Traces.{query_fits}
+use Rattle.octets.proofs.Truth.{and-false}
+use Rattle.tracer.specs.Query.{query_of}
 use Rattle.klumdray.proofs.klumdray_why.Goals as goal
 
-pub returns-then-fit : goal.returns-then-fit
-returns-then-fit c =
-    let octet-of = c.octet_of-asked in
-    let query-from = c.query_from-query in
-    let fit = tested-line (ltb c.args.line 256) c.query_fits.ensures c.if-fit.true in
-    let both = and-true _ _ fit in
-    let query = query-kept _ _ _ _ both.0 query-from.ensures in
-    let line = octet-of.ensures ∙ octet-kept _ both.1 in
-    why-fit _ _ _ _ fit (rw (query, line) at c.why-explanation.ensures) c.of_explanation.ensures
+pub returns-in_default : goal.returns-in_default
+returns-in_default c =
+    let a = c.args in
+    let fits = query_fits (query_of a.start a.kind a.destination a.count) in
+    rw c.number.ensures (why-unfit _ _ _ _ (rw (le-ltb a.line 256 (omega (arith, c.in_default.ensures))) (and-false fits)))
 
-pub returns-else-fit : goal.returns-else-fit
-returns-else-fit c =
-    why-unfit _ _ _ _ (tested-line (ltb c.args.line 256) c.query_fits.ensures c.if-fit.false)
+pub returns-in_default-query_given : goal.returns-in_default-query_given
+returns-in_default-query_given c =
+    rw c.number-in_default-query_given.ensures (why-unfit _ _ _ _ (rw (given-none _ _ c.query_given.ensures c.in_default-query_given.is) refl))
+
+pub returns : goal.returns
+returns c =
+    let fit = given-fits _ c.query_given.ensures c.in-Some.is in
+    let line = c.in-Ok.ensures in
+    why-fit _ _ _ _ (rw (fit.0, lt-ltb c.args.line 256 line.0)) (rw (fit.1, line.1) at c.why-explanation.ensures) c.of_explanation.ensures
