@@ -1,6 +1,6 @@
 -- A call of the surface is the inner call behind a test whether the numbers fit: of the writers said once for every format.
 use Rattle.std.specs.Prelude.{Result, Ok, Err, Option, Some, None}
-use Prim.Native.Nat.{ℕ, ◌%◌, ◌^◌, ◌≤◌, ◌<◌}
+use Prim.Native.Nat.{ℕ, ◌^◌, ◌≤◌, ◌<◌}
 use mathlib.Core.Bool.{Bool, true, false, cond, ◌&&◌}
 use mathlib.Core.List.{List}
 use mathlib.Core.Path.{◌≡◌, refl, sym, ap, ◌∙◌, subst}

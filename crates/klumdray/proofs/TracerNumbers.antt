@@ -38,7 +38,6 @@ use Rattle.tracer.specs.Query.{is_query}
 use Rattle.tracer.specs.Tracing.{traced_by, list_by}
 use Rattle.tracer.specs.Why.{why_of}
 use Rattle.tracer.specs.declared.Stop.{Stop}
-use Rattle.tracer.specs.declared.Traced.{Traced}
 use Rattle.frame.specs.declared.Refusal.{Refusal}
 
 count-some : (f : ℕ → Bool) (n s : ℕ) → s < n → f s ≡ true → 1 ≤ count_below f n

@@ -5,7 +5,6 @@ ghost use Rattle.coupler.specs.Step.{acknowledgement_number};
 ghost use Rattle.klumdray.specs.Block.{are_settings, setting_in, codes_in, outcome_number};
 ghost use Rattle.klumdray.specs.Stages.{side_or_none, start_of, kept_in, remembered_at};
 
-use crate::numbers;
 use coupler::{Acknowledgement, Outcome, Setting};
 use frame::Refusal;
 
@@ -36,7 +35,7 @@ pub(crate) fn codes_in(settings: &[u8]) -> [[u8; 4]; 2]
 pub(crate) fn side_of(side: u32) -> u8
     ensures { result ≡ side_or_none side }
 {
-    if side < 2 { numbers::octet_of(side) } else { 2 }
+    if side < 2 { side as u8 } else { 2 }
 }
 
 // Where the half of a side begins.

@@ -26,11 +26,7 @@ pub(crate) fn are_channels(block: &[u8]) -> bool
 pub(crate) fn number_of(channel: u32) -> u8
     ensures { result ≡ channel_or_none channel }
 {
-    if channel < 256 {
-        numbers::octet_of(channel)
-    } else {
-        0
-    }
+    u8::try_from(channel).unwrap_or(0)
 }
 
 fn octet_in(block: &[u8], number: u8, place: u8) -> u8

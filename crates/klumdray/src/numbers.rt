@@ -1,5 +1,5 @@
 // Answers as the numbers that cross the surface, and a caller's numbers as a meaning.
-ghost use Rattle.std.specs.Prelude.{◌≡◌, ◌%◌, ◌<◌, ◌&&◌, true, length};
+ghost use Rattle.std.specs.Prelude.{◌≡◌, ◌<◌, ◌&&◌, true, length};
 ghost use Rattle.cemi.specs.Writing.{message_in_range};
 ghost use Rattle.cemi.specs.declared.Codes.TheVariants.{All};
 ghost use Rattle.frame.specs.Writing.{Wrote};
@@ -98,38 +98,25 @@ pub(crate) fn of_acknowledged(answer: Result<Acknowledgement, Refusal>) -> u32
     }
 }
 
-// A number in so many bits that the calls inside take: itself, where it fits.
-pub(crate) fn octet_of(number: u32) -> u8
-    ensures { result ≡ number % 256 }
-{
-    (number % 256) as u8
-}
-
-pub(crate) fn word_of(number: u32) -> u16
-    ensures { result ≡ number % 65536 }
-{
-    (number % 65536) as u16
-}
-
-pub(crate) fn are_flags(extended: u32, first: u32, group: u32) -> bool
+fn are_flags(extended: u32, first: u32, group: u32) -> bool
     ensures { result ≡ are_flags extended first group }
 {
     (extended < 2) & (first < 2) & (group < 2)
 }
 
-pub(crate) fn are_octets(priority: u32, count: u32) -> bool
+fn are_octets(priority: u32, count: u32) -> bool
     ensures { result ≡ are_octets priority count }
 {
     (priority < 256) & (count < 256)
 }
 
-pub(crate) fn are_words(source: u32, destination: u32) -> bool
+fn are_words(source: u32, destination: u32) -> bool
     ensures { result ≡ are_words source destination }
 {
     (source < 65536) & (destination < 65536)
 }
 
-pub(crate) fn are_marks(code: u32, error: u32) -> bool
+fn are_marks(code: u32, error: u32) -> bool
     ensures { result ≡ are_marks code error }
 {
     (code < 256) & (error < 2)

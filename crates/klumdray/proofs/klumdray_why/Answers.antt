@@ -1,7 +1,6 @@
 -- The inner explanation of what the numbers ask; a line of more bits, and numbers that ask nothing, are refused before it.
 use mathlib.Core.Path.{refl}
 use native.Mathlib.Omega.{arith}
-use lib.Dec.{ltb}
 use borrow.Author.Tests.{lt-ltb, le-ltb}
 use Rattle.klumdray.proofs.Surface.{given-fits, given-none, why-fit, why-unfit}
 use Rattle.klumdray.specs.Traces.{query_fits}
