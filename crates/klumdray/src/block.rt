@@ -45,7 +45,8 @@ pub(crate) fn start_of(side: u8) -> usize
     if side == 0 { 0 } else { 265 }
 }
 
-// How many octets of a half are the remembered frame's.
+// How many octets of a half are the remembered frame's. Block and start stay two parameters: this reads
+// the block and `remember` writes it, so that a struct of both would be made for each of them.
 pub(crate) fn kept_in(block: &[u8], start: usize) -> usize
     ensures { (result ≡ kept_in block.now start) × (result ≤ 263) }
 {

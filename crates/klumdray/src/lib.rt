@@ -1,4 +1,5 @@
-// The surface for C and Rust: numbers and byte slices only. include/klumdray.h documents each call.
+// The surface for C and Rust: numbers and byte slices only. include/klumdray.h documents each call, and has
+// a frame's numbers one by one, as they stand here.
 #![tactic(auto)]
 
 mod block;

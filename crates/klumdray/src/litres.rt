@@ -47,6 +47,8 @@ pub(crate) fn of_carried(carried: Option<u16>) -> u32
     }
 }
 
+// By its four fields: `from_be_bytes` wants an array, and the block may be of any length here, so that
+// each of its eight octets would be read by itself.
 pub(crate) fn total_in(block: &[u8]) -> i64
     ensures { result ≡ total_in block.now }
 {

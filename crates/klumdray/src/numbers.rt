@@ -34,6 +34,8 @@ fn of_meaning(meaning: Meaning, payload: usize) -> u64
         + length * 281474976710656
 }
 
+// Two arms, here and in each `of_` below: a generic function that is handed the first arm as a closure
+// would be no plainer, and each of these would stay, since wrong programs are named for them.
 pub(crate) fn of_tp1(answer: Result<Meaning, Refusal>, payload: usize) -> u64
     ensures { result ≡ tp1_number answer payload }
 {
@@ -98,6 +100,8 @@ pub(crate) fn of_acknowledged(answer: Result<Acknowledgement, Refusal>) -> u32
     }
 }
 
+// Tests with names of their own, which wrong programs are named for; `try_from` of each number would
+// test it a second time.
 fn are_flags(extended: u32, first: u32, group: u32) -> bool
     ensures { result ≡ are_flags extended first group }
 {
