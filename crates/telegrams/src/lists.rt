@@ -36,7 +36,7 @@ impl<'a> Iterator for Items<'a> {
     }
 }
 
-// The first octets, or all where there are fewer.
+// The first octets, or all where there are fewer: what stands in a room that was lent, for there is no heap.
 pub(crate) fn front(octets: &[u8], size: usize) -> &[u8] {
     &octets[..size.min(octets.len())]
 }

@@ -49,6 +49,7 @@ impl fmt::Display for OutcomeText<'_> {
         };
         let own = if outcome.own { "own" } else { "not-own" };
         write!(f, "{acknowledgement} {own} sends")?;
+        // "octets forwarded (0 if none)", as coupler's `Outcome` has them
         if outcome.forwarded == 0 {
             f.write_str(" nothing")
         } else {

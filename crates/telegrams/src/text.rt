@@ -52,6 +52,7 @@ pub(crate) struct MessageText<'a> {
 impl fmt::Display for MessageText<'_> {
     fn fmt<W: fmt::Write>(&self, f: &mut fmt::Formatter<W>) -> fmt::Result {
         let message = self.message;
+        // The code as cemi's `Message` has it: its number.
         match message.code {
             0x11 => f.write_str("request ")?,
             0x2E => write!(f, "confirmation error {} ", u8::from(message.error))?,
