@@ -1,12 +1,24 @@
 -- Two texts put one behind the other are one text put: so each function's pieces are joined from left to right.
-use Prim.Native.Nat.{ℕ, ◌+◌, ◌≤◌}
-use mathlib.Core.List.{List, ◌++◌}
-use mathlib.Core.Path.{◌≡◌, ◌∙◌, subst}
+use Prim.Native.Nat.{ℕ, zero, suc, ◌+◌, ◌≤◌, ◌<◌}
+use mathlib.Core.List.{List, [], ◌∷◌, ◌++◌, append_assoc}
+use mathlib.Core.Path.{◌≡◌, refl, sym, ap, ◌∙◌, subst}
 use native.Mathlib.Omega.{arith}
-use lib.ListN.{length, length-append}
-use Rattle.octets.proofs.Room.{laid-length, laid_then}
+use lib.ListN.{length, length-append, set, take, drop}
+use Rattle.octets.proofs.Room.{laid-fits, laid-length, laid_then}
+use Rattle.octets.specs.Room.{laid}
 use Rattle.report.specs.declared.text.Writer.{Writer}
 use Rattle.report.specs.Stages.{Fits, HasPlace, Puts, Wrote}
+
+-- one octet written is that octet laid
+set-taken : (room : List ℕ) (at octet : ℕ) → at < length room → set room at octet ≡ take at room ++ octet ∷ drop (suc at) room
+set-taken [] at octet h = absurd (omega arith)
+set-taken (a ∷ room) zero octet h = refl
+set-taken (a ∷ room) (suc at) octet h = ap (λ (l : List ℕ). a ∷ l) (set-taken room at octet (omega (arith, h)))
+
+pub set-laid : (room : List ℕ) (at octet : ℕ) → at + 1 ≤ length room → set room at octet ≡ laid (octet ∷ []) at room
+set-laid room at octet h =
+    let next : suc at ≡ at + length (octet ∷ []) = omega arith in
+    set-taken room at octet (omega (arith, h)) ∙ ap (λ (k : ℕ). take at room ++ octet ∷ drop k room) next ∙ sym (laid-fits (octet ∷ []) at room h ∙ append_assoc (take at room) (octet ∷ []) (drop (at + length (octet ∷ [])) room))
 
 module _ (a b : List ℕ) (w : Writer) (h : HasPlace w (a ++ b)) where
   fits_both : w.at + (length a + length b) ≤ length w.room.now

@@ -31,8 +31,8 @@ impl<'a> Writer<'a> {
         requires { HasPlace self.old (digit (number % 10)) }
         ensures { Wrote self.old (digit (number % 10)) self.new }
     {
-        let last = (number % 10) as u8;
-        self.put(&[b'0' + last]);
+        self.room[self.at] = b'0' + (number % 10) as u8;
+        self.at += 1;
     }
 
     // The digits before the last are those of the tenth.
