@@ -16,16 +16,16 @@ pub(crate) fn hand(count: u8, lines: u8, passes: bool) -> u8
     if handed { lines + 1 } else { 0 }
 }
 
-// Up from a line to one of its main sides.
-fn climb(passing: &[[bool; 2]; 256], query: Query, from: u8, top: u8, lines: u8) -> u8
+// Up from a line to one of its main sides. The count alone: a query would be copied for each of 256 lines, 13 instructions each.
+fn climb(passing: &[[bool; 2]; 256], count: u8, from: u8, top: u8, lines: u8) -> u8
     requires { (is_among top (main_sides from) ≡ true) × (lines + depth from < 255) }
-    ensures { result ≡ along (marked passing.now) query.count lines (climbing from top) }
+    ensures { result ≡ along (marked passing.now) count lines (climbing from top) }
 {
     if from == top {
         return lines;
     }
-    let lines = hand(query.count, lines, passing[from as usize][1]);
-    climb(passing, query, crate::main_side(from), top, lines)
+    let lines = hand(count, lines, passing[from as usize][1]);
+    climb(passing, count, crate::main_side(from), top, lines)
 }
 
 // The lines put on before are known of every line below this one.
@@ -34,7 +34,7 @@ fn reach_of(passing: &[[bool; 2]; 256], query: Query, lines: &[u8; 256], line: u
     ensures { result ≡ reach_by passing.now lines.now query.start query.count line }
 {
     if crate::lines::is_above(line, query.start) {
-        return climb(passing, query, query.start, line, 1);
+        return climb(passing, query.count, query.start, line, 1);
     }
     let main = crate::main_side(line) as usize;
     hand(query.count, lines[main], passing[line as usize][0])

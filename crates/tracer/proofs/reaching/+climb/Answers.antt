@@ -14,9 +14,9 @@ pub climb-requires : goal.climb-requires
 climb-requires t c =
     let d = c.if-from-top.false in
     let less = climb-less d c.requires.0 c.main_side.ensures in
-    let most = handed-most c.args.query.count c.args.lines (get_or (get_or c.args.passing.now c.args.from []) 1 false) in
+    let most = handed-most c.args.count c.args.lines (get_or (get_or c.args.passing.now c.args.from []) 1 false) in
     (omega (arith, less, c.decreases), (climb-on d c.requires.0 c.main_side.ensures, omega (arith, less, c.requires.1, c.hand-lines.ensures, most)))
 
 pub returns : goal.returns
 returns t c =
-    climb-more c.if-from-top.false c.requires.0 c.main_side.ensures c.args.passing.now c.args.query.count c.args.lines c.hand-lines.ensures c.climb.ensures
+    climb-more c.if-from-top.false c.requires.0 c.main_side.ensures c.args.passing.now c.args.count c.args.lines c.hand-lines.ensures c.climb.ensures
