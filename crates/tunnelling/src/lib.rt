@@ -1,7 +1,7 @@
 // KNXnet/IP tunnelling on the wire: requests, which carry one cEMI message, and their acknowledgements.
 #![tactic(auto)]
 
-ghost use Rattle.std.specs.Prelude.{◌≡◌, true, length};
+ghost use Rattle.std.specs.Prelude.{◌≡◌, ◌≤◌, true, length};
 ghost use Rattle.octets.specs.Part.{PartAt};
 ghost use Rattle.octets.specs.Room.{laid};
 ghost use Rattle.frame.specs.Writing.{Wrote};
@@ -53,7 +53,8 @@ fn judge_connection(octets: &[u8]) -> Result<(), Refusal>
     Ok(())
 }
 
-// The header and the connection header of a datagram, told which service is wanted.
+// The header and the connection header of a datagram, told which service is wanted: a number and no enum, since
+// another service's number is answered too.
 pub fn read_connection(octets: &[u8], service: u16) -> Result<(), Refusal>
     ensures { result ≡ read_connection service octets.now }
 {
@@ -84,23 +85,13 @@ pub fn message(answer: Result<Request, Refusal>, octets: &[u8]) -> &[u8]
     &octets[10..]
 }
 
-// Lays header and connection header over the front of a room.
+// Lays header and connection header over the front of a room that has their ten octets.
 fn lay_head(service: u16, total: u16, channel: u8, counter: u8, status: u8, room: &mut [u8])
+    requires { 10 ≤ length room.old }
     ensures { room.new ≡ laid (connected_head service total channel counter status) 0 room.old }
 {
-    let head = [
-        0x06,
-        0x10,
-        octets::high_octet(service),
-        octets::low_octet(service),
-        octets::high_octet(total),
-        octets::low_octet(total),
-        0x04,
-        channel,
-        counter,
-        status,
-    ];
-    octets::lay(&head, 0, room);
+    knxnetip::lay_header(service, total, room);
+    octets::lay(&[0x04, channel, counter, status], 6, room);
 }
 
 // Writes a request with the plain form of its message, or refuses by 14, then 13.
