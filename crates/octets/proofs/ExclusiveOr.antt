@@ -6,6 +6,7 @@ use native.Mathlib.Omega.{arith}
 use lib.Arith.{bin_ind}
 use lib.Bits.{bit_xor, differ, xor_step, xor_zero_l, xor_zero_r, xor_comm, xor_shr, xor_mod, xor_lt}
 use lib.Dec.{eqb}
+use lib.ListN.{take, drop, take-append-drop}
 use borrow.Author.Tests.{eqb-true}
 use Rattle.octets.specs.Octets.{Octets}
 use Rattle.octets.specs.Check.{xor_from, check_octet}
@@ -55,6 +56,10 @@ xor-start x s = ap (λ (z : ℕ). xor_from z s) (sym (xor_zero_r x)) ∙ xor-fro
 pub xor-append : (x : ℕ) (s t : List ℕ) → xor_from x (s ++ t) ≡ xor_from (xor_from x s) t
 xor-append x [] t = refl
 xor-append x (o ∷ s) t = xor-append (bit_xor x o) s t
+
+-- a list's first elements, and then those behind them
+pub xor_parts : (n : ℕ) (s : List ℕ) → xor_from (xor_from 0 (take n s)) (drop n s) ≡ xor_from 0 s
+xor_parts n s = sym (xor-append 0 (take n s) (drop n s)) ∙ ap (xor_from 0) (take-append-drop n s)
 
 -- what two lists come to, each by itself
 pub xor-both : (s t : List ℕ) → xor_from 0 (s ++ t) ≡ bit_xor (xor_from 0 s) (xor_from 0 t)

@@ -1,15 +1,14 @@
 -- Four octets side by side in one number: the exclusive or of two such numbers is that of their octets, and a number's octets fold by halves.
-use Prim.Native.Nat.{ℕ, zero, suc, ◌+◌, ◌*◌, ◌/◌, ◌%◌, ◌^◌, ◌<◌}
+use Prim.Native.Nat.{ℕ, zero, suc, ◌+◌, ◌*◌, ◌/◌, ◌%◌, ◌^◌, ◌≤◌, ◌<◌}
 use mathlib.Core.List.{List, [], ◌∷◌, ◌++◌}
 use mathlib.Core.Path.{◌≡◌, refl, sym, ap, ap₂, ◌∙◌}
 use native.Mathlib.Nat.{add-zero, zero-add}
 use native.Mathlib.Omega.{arith}
-use lib.Bits.{bit_xor, xor_shr, xor_mod, xor_lt}
-use lib.ListN.{get_or}
-use lib.Pow.{mod-mod-pow, field}
+use lib.Bits.{bit_xor, xor_shr, xor_mod}
+use lib.ListN.{length, get_or, take}
 use Rattle.octets.specs.Octets.{Octets}
 use Rattle.octets.specs.Check.{xor_from}
-use Rattle.octets.proofs.Split.{firsts}
+use Rattle.octets.proofs.Split.{firsts, take-firsts}
 use Rattle.octets.proofs.ExclusiveOr.{xor_assoc, xor-swap, xor-both}
 
 -- the exclusive or of a number's four octets
@@ -20,32 +19,23 @@ lanes n = xor_from 0 (n % 256 ∷ n / 256 % 256 ∷ n / 65536 % 256 ∷ n / 1677
 abbrev pub among : ℕ → ℕ → List ℕ → ℕ
 among n i s = xor_from 0 (firsts n i s)
 
--- by halves
-module _ (n : ℕ) (h : n < 4294967296) where
-  abbrev half : ℕ
-  half = bit_xor (n % 65536) (n / 65536)
-
-  pub folded_fits : bit_xor (half % 256) (half / 256) < 256
-  folded_fits =
-      let k : half < 65536 = xor_lt 16 (n % 65536) (n / 65536) (omega arith) (omega arith) in
-      xor_lt 8 (half % 256) (half / 256) (omega arith) (omega arith)
-
-  pub folded-is : bit_xor (half % 256) (half / 256) ≡ lanes n
-  folded-is =
-      let d : n / 65536 / 256 ≡ n / 16777216 = omega arith in
-      ap₂ bit_xor (xor_mod (n % 65536) (n / 65536) 8 ∙ ap (λ (x : ℕ). bit_xor x (n / 65536 % 256)) (mod-mod-pow n 8 8)) (xor_shr (n % 65536) (n / 65536) 8 ∙ ap₂ bit_xor (field n 8 8) d)
-      ∙ xor-swap (n % 256) (n / 65536 % 256) (n / 256 % 256) (n / 16777216)
-      ∙ sym (xor_assoc (bit_xor (n % 256) (n / 256 % 256)) (n / 65536 % 256) (n / 16777216))
-
 -- octet by octet
+octet-xor : (k a b : ℕ) → bit_xor a b / 2 ^ k % 256 ≡ bit_xor (a / 2 ^ k % 256) (b / 2 ^ k % 256)
+octet-xor k a b = ap (λ (x : ℕ). x % 256) (xor_shr a b k) ∙ xor_mod (a / 2 ^ k) (b / 2 ^ k) 8
+
 pub lanes-xor : (a b : ℕ) → lanes (bit_xor a b) ≡ bit_xor (lanes a) (lanes b)
 lanes-xor a b =
-    ap₂ bit_xor (ap₂ bit_xor (ap₂ bit_xor (xor_mod a b 8) (octet 8) ∙ xor-swap (a % 256) (b % 256) (a / 256 % 256) (b / 256 % 256)) (octet 16)
+    ap₂ bit_xor (ap₂ bit_xor (ap₂ bit_xor (xor_mod a b 8) (octet-xor 8 a b) ∙ xor-swap (a % 256) (b % 256) (a / 256 % 256) (b / 256 % 256)) (octet-xor 16 a b)
     ∙ xor-swap (bit_xor (a % 256) (a / 256 % 256)) (bit_xor (b % 256) (b / 256 % 256)) (a / 65536 % 256) (b / 65536 % 256)) (xor_shr a b 24)
     ∙ xor-swap (bit_xor (bit_xor (a % 256) (a / 256 % 256)) (a / 65536 % 256)) (bit_xor (bit_xor (b % 256) (b / 256 % 256)) (b / 65536 % 256)) (a / 16777216) (b / 16777216)
-  where
-    octet : (k : ℕ) → bit_xor a b / 2 ^ k % 256 ≡ bit_xor (a / 2 ^ k % 256) (b / 2 ^ k % 256)
-    octet k = ap (λ (x : ℕ). x % 256) (xor_shr a b k) ∙ xor_mod (a / 2 ^ k) (b / 2 ^ k) 8
+
+-- by halves: the two lower octets of a number and its upper half
+pub folded_is : (n : ℕ) → n < 2 ^ 32 → bit_xor (bit_xor n (n / 65536) % 256) (bit_xor n (n / 65536) / 256 % 256) ≡ lanes n
+folded_is n h =
+    let d : n / 65536 / 256 % 256 ≡ n / 16777216 = omega arith in
+    ap₂ bit_xor (xor_mod n (n / 65536) 8) (octet-xor 8 n (n / 65536) ∙ ap (bit_xor (n / 256 % 256)) d)
+    ∙ xor-swap (n % 256) (n / 65536 % 256) (n / 256 % 256) (n / 16777216)
+    ∙ sym (xor_assoc (bit_xor (n % 256) (n / 256 % 256)) (n / 65536 % 256) (n / 16777216))
 
 -- those of octets side by side
 lanes-of : (a b c d : ℕ) → a < 256 → b < 256 → c < 256 → d < 256 → lanes (a + (b + (c + d * 256) * 256) * 256) ≡ xor_from 0 (a ∷ b ∷ c ∷ d ∷ [])
@@ -69,10 +59,6 @@ firsts-add (suc m) n i s =
 -- so many octets, and others behind them
 among-add : (m n i : ℕ) (s : List ℕ) → bit_xor (among m i s) (among n (i + m) s) ≡ among (m + n) i s
 among-add m n i s = sym (ap (xor_from 0) (firsts-add m n i s) ∙ xor-both (firsts m i s) (firsts n (i + m) s))
-
--- both halves, each to its end
-pub halves-meet : (s : List ℕ) (all h : ℕ) → lanes all ≡ bit_xor (among h 0 s) (among h h s) → lanes all ≡ among (h + h) 0 s
-halves-meet s all h e = e ∙ rw zero-add at (among-add h h 0 s)
 
 -- four octets side by side, the first of them lowest
 abbrev pub four_at : List ℕ → ℕ → ℕ
@@ -102,3 +88,26 @@ module _ (s : List ℕ) (o : Octets s) where
       ∙ ap₂ bit_xor e (lanes-xor x y ∙ ap₂ bit_xor (lanes-four (t * 4)) (lanes-four (h + t * 4)))
       ∙ xor-swap (among (t * 4) 0 s) (among (t * 4) h s) (among 4 (t * 4) s) (among 4 (h + t * 4) s)
       ∙ rw n (ap₂ bit_xor (rw zero-add at (among-add (t * 4) 4 0 s)) (among-add (t * 4) 4 h s))
+
+-- at the end the halves meet, and are all octets that come in fours, with four octets behind them or none
+halves-meet : (s : List ℕ) (all h : ℕ) → lanes all ≡ bit_xor (among h 0 s) (among h h s) → lanes all ≡ among (h + h) 0 s
+halves-meet s all h e = e ∙ rw zero-add at (among-add h h 0 s)
+
+module _ (s : List ℕ) where
+  fours-are : (all n : ℕ) → n ≤ length s → lanes all ≡ among n 0 s → lanes all ≡ xor_from 0 (take n s)
+  fours-are all n h e = e ∙ ap (xor_from 0) (sym (take-firsts n s h))
+
+  pub halves-end : (all t : ℕ) → t ≡ length s / 8 → length s % 8 < 4 → lanes all ≡ bit_xor (among (t * 4) 0 s) (among (t * 4) (length s / 8 * 4) s)
+      → lanes all ≡ xor_from 0 (take (length s / 4 * 4) s)
+  halves-end all t k h e =
+      let n : length s / 8 * 4 + length s / 8 * 4 ≡ length s / 4 * 4 = omega arith in
+      fours-are all (length s / 4 * 4) (omega arith) (rw n at (halves-meet s all (length s / 8 * 4) (rw k at e)))
+
+  pub halves-four : Octets s → (all t : ℕ) → t ≡ length s / 8 → 4 ≤ length s % 8 → lanes all ≡ bit_xor (among (t * 4) 0 s) (among (t * 4) (length s / 8 * 4) s)
+      → lanes (bit_xor all (four_at s (length s / 8 * 4 * 2))) ≡ xor_from 0 (take (length s / 4 * 4) s)
+  halves-four o all t k h e =
+      let half = length s / 8 * 4 in
+      let m : half * 2 ≡ half + half = omega arith in
+      let n : half + half + 4 ≡ length s / 4 * 4 = omega arith in
+      fours-are (bit_xor all (four_at s (half * 2))) (length s / 4 * 4) (omega arith)
+      (rw m (rw (zero-add, n) at (four-more s o all (half + half) 0 (halves-meet s all half (rw k at e)))))

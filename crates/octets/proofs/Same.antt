@@ -12,7 +12,7 @@ use lib.Seq.{ext_get_or}
 use borrow.Author.Tests.{eq-eqb, ne_eqb, eqb-true, eqb-false}
 use Rattle.octets.specs.Octets.{octet_at, Octets}
 use Rattle.octets.proofs.Truth.{by_cases, and-true, and_yes}
-use Rattle.octets.proofs.Split.{firsts, firsts-last, take-firsts}
+use Rattle.octets.proofs.Split.{firsts, take-firsts}
 use Rattle.octets.proofs.Fours.{four_at}
 
 -- whether n octets from an index on are the same
@@ -67,27 +67,16 @@ four-alike s t o p i =
     ∙ ap (λ (r : Bool). eqb (get_or s (i + 1) 0) (get_or t (i + 1) 0) && r) (above (get_or s (i + 2) 0) (get_or t (i + 2) 0) _ _ (o (i + 2)) (p (i + 2))))
     ∙ rw (a, b, c, and_yes) refl
 
--- one octet, and two
-pub one_alike : (i : ℕ) (s t : List ℕ) → eqb (get_or s i 0) (get_or t i 0) ≡ alike 1 i s t
-one_alike i s t = sym (and_yes (eqb (get_or s i 0) (get_or t i 0)))
+-- a turn more
+pub more_alike : (s t : List ℕ) → Octets s → Octets t → (b : Bool) (turn : ℕ) → b ≡ alike (turn * 4) 0 s t
+    → b && eqb (four_at s (turn * 4)) (four_at t (turn * 4)) ≡ alike ((turn + 1) * 4) 0 s t
+more_alike s t o p b turn e =
+    let n : (turn + 1) * 4 ≡ turn * 4 + 4 = omega arith in
+    rw n (ap₂ ◌&&◌ e (four-alike s t o p (turn * 4)) ∙ rw zero-add at (alike-add (turn * 4) 4 0 s t))
 
-pub two-alike : (i : ℕ) (s t : List ℕ) → eqb (get_or s i 0) (get_or t i 0) && eqb (get_or s (i + 1) 0) (get_or t (i + 1) 0) ≡ alike 2 i s t
-two-alike i s t = ap₂ ◌&&◌ (one_alike i s t) (one_alike (i + 1) s t) ∙ alike-add 1 1 i s t
-
--- as parts of lists
+-- as a part of a list
 pub alike-take : (n : ℕ) (s t : List ℕ) → n ≤ length s → n ≤ length t → alike n 0 s t ≡ true ↔ (take n s ≡ take n t)
 alike-take n s t h k = rw (take-firsts n s h, take-firsts n t k) (alike-iff n 0 s t)
-
-pub alike-drop : (n i : ℕ) (s t : List ℕ) → i + n ≡ length s → i + n ≡ length t → alike n i s t ≡ true ↔ (drop i s ≡ drop i t)
-alike-drop n i s t h k = rw (firsts-last n i s h, firsts-last n i t k) (alike-iff n i s t)
-
-pub parts_same : (n : ℕ) (s t : List ℕ) (a b : Bool) → (a ≡ true ↔ (take n s ≡ take n t)) → (b ≡ true ↔ (drop n s ≡ drop n t)) → a && b ≡ true ↔ (s ≡ t)
-parts_same n s t a b f g = (
-  (λ e.
-      let q = and-true a b e in
-      sym (take-append-drop n s) ∙ ap₂ (λ (x y : List ℕ). x ++ y) (f.0 q.0) (g.0 q.1) ∙ take-append-drop n t),
-  (λ e. rw (f.1 (ap (take n) e)) (g.1 (ap (drop n) e))),
-)
 
 -- a list is known by its length and its octets
 pub by-octets : (s t : List ℕ) → s ≡ t ↔ ((length s ≡ length t) × ((i : ℕ) → octet_at s i ≡ octet_at t i))
@@ -95,3 +84,13 @@ by-octets s t = ((λ e. (ap length e, λ i. ap (λ (l : List ℕ). octet_at l i)
 
 pub told-by : {A B C : Type 0} → A ↔ B → B ↔ C → A ↔ C
 told-by f g = ((λ a. g.0 (f.0 a)), (λ c. f.1 (g.1 c)))
+
+-- by its first octets and those behind them
+pub parts_same : (n : ℕ) (s t : List ℕ) (a b : Bool) → (a ≡ true ↔ (take n s ≡ take n t)) → (b ≡ true ↔ (drop n s ≡ drop n t))
+    → a && b ≡ true ↔ ((length s ≡ length t) × ((i : ℕ) → octet_at s i ≡ octet_at t i))
+parts_same n s t a b f g = told-by (
+  (λ e.
+      let q = and-true a b e in
+      sym (take-append-drop n s) ∙ ap₂ (λ (x y : List ℕ). x ++ y) (f.0 q.0) (g.0 q.1) ∙ take-append-drop n t),
+  (λ e. rw (f.1 (ap (take n) e)) (g.1 (ap (drop n) e))),
+) (by-octets s t)
