@@ -23,7 +23,7 @@ use Rattle.leak.proofs.Codes.{mantissa-plus, mantissa-minus}
 use Rattle.leak.proofs.Exactly.{read-invalid, read-valid}
 use Rattle.leak.proofs.NearestM.{nearest-is, nearest-one}
 use Rattle.leak.proofs.Scale.{power-most}
-use Rattle.leak.proofs.Smallest.{plus-code, plus-bounds, plus-meets, minus-code, minus-bounds}
+use Rattle.leak.proofs.Smallest.{plus_code, plus_bounds, plus-meets, minus_code, minus_bounds}
 use Rattle.leak.proofs.Written.{Reach, smallest-fits, smallest-most, smallest-none}
 
 -- M and E of the code that they make
@@ -131,8 +131,8 @@ code-valid (pos a) r =
     let h : a ≤ 67043328 = leb-true a 67043328 r.upper in
     let e = exponent_under 2047 a in
     let m = nearest_to a (2 ^ exponent_under 2047 a) in
-    let s = plus-code a (exponent_under 2047 a) (nearest_to a (2 ^ exponent_under 2047 a)) refl refl in
-    let b = plus-bounds a (exponent_under 2047 a) (nearest_to a (2 ^ exponent_under 2047 a)) h refl refl in
+    let s = plus_code a (exponent_under 2047 a) (nearest_to a (2 ^ exponent_under 2047 a)) refl refl in
+    let b = plus_bounds a (exponent_under 2047 a) (nearest_to a (2 ^ exponent_under 2047 a)) h refl refl in
     let valid : code_for (pos a) ≡ 0x7FFF → ⊥ = λ x.
     let k : exponent_under 2047 a ≡ 15 = omega (arith, b.0, b.1) in
     let l : nearest_to a (2 ^ exponent_under 2047 a) ≤ 2046 = rw k (plus-meets a h) in
@@ -140,8 +140,8 @@ code-valid (pos a) r =
     (omega (arith, b.0, b.1), valid)
 code-valid (negsuc a) r =
     let h : a < 67108864 = omega (arith, leb-true a 67108863 r.lower) in
-    let b = minus-bounds a (exponent_under 2048 (suc a)) (nearest_to (suc a) (2 ^ exponent_under 2048 (suc a))) h refl refl in
-    let s = minus-code a (exponent_under 2048 (suc a)) (nearest_to (suc a) (2 ^ exponent_under 2048 (suc a))) refl refl b.2 in
+    let b = minus_bounds a (exponent_under 2048 (suc a)) (nearest_to (suc a) (2 ^ exponent_under 2048 (suc a))) h refl refl in
+    let s = minus_code a (exponent_under 2048 (suc a)) (nearest_to (suc a) (2 ^ exponent_under 2048 (suc a))) refl refl b.2 in
     (omega (arith, b.0, b.1, b.2), λ x. omega arith)
 
 -- and so what the reader answers has 32 bits

@@ -1,6 +1,6 @@
 -- A signed number of any width, taken apart by its sign into its size; and the writer's range, by the size.
 use Rattle.std.specs.Prelude.{Ok, Err}
-use Prim.Native.Nat.{ℕ, suc, ◌≤◌, ◌<◌}
+use Prim.Native.Nat.{ℕ, suc}
 use mathlib.Core.Bool.{true, false}
 use mathlib.Core.Path.{◌≡◌, refl, sym, ap, ◌∙◌}
 use native.Mathlib.Omega.{arith}
@@ -43,9 +43,6 @@ module _ (a : ℕ) where
   unfolding write_code
   minus-refused h = rw (lt-leb a 67108863 (ltb-true 67108863 a h))
 
-  pub minus-below : lt_z (negsuc a) (negsuc 67108863) ≡ false → a < 67108864
-  minus-below h = omega (arith, ltb-false 67108863 a h)
-
   pub minus-written : lt_z (negsuc a) (negsuc 67108863) ≡ false → write_code (negsuc a) ≡ Ok (code_for (negsuc a))
   unfolding write_code
   minus-written h = rw (le-leb a 67108863 (ltb-false 67108863 a h))
@@ -53,9 +50,6 @@ module _ (a : ℕ) where
   pub plus-refused : lt_z (pos 67043328) (pos a) ≡ true → write_code (pos a) ≡ Err OutOfRange
   unfolding write_code
   plus-refused h = rw (lt-leb a 67043328 (ltb-true 67043328 a h))
-
-  pub plus-most : lt_z (pos 67043328) (pos a) ≡ false → a ≤ 67043328
-  plus-most h = ltb-false 67043328 a h
 
   pub plus-written : lt_z (pos 67043328) (pos a) ≡ false → write_code (pos a) ≡ Ok (code_for (pos a))
   unfolding write_code

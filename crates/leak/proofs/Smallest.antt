@@ -3,6 +3,7 @@ use Prim.Native.Nat.{ℕ, zero, suc, ◌+◌, ◌-◌, ◌*◌, ◌^◌, ◌≤�
 use mathlib.Core.Bool.{Bool, true, false, cond, ◌&&◌}
 use mathlib.Core.Path.{◌≡◌, refl, ap, subst}
 use native.Mathlib.Nat.{add-zero, mul-le-mul_right}
+use native.Mathlib.Numerals.{add-one}
 use native.Mathlib.Omega.{arith}
 use lib.Dec.{leb, eqb}
 use lib.Pow.{pow_pos}
@@ -14,18 +15,15 @@ use Rattle.leak.proofs.NearestLaws.{nearest-near}
 
 module _ (most a : ℕ) where
   -- one exponent tried, for the loop
-  pub under-here : (e x : ℕ) → e < 15 → first_under most (15 - e) e a ≡ x → nearest_to a (2 ^ e) ≤ most → e ≡ x
-  under-here e x h p k =
+  pub under_here : (e x : ℕ) → e < 15 → first_under most (15 - e) e a ≡ x → nearest_to a (2 ^ e) ≤ most → e ≡ x
+  under_here e x h p k =
       let n : 15 - e ≡ suc (14 - e) = omega arith in
       rw (n, le-leb (nearest_to a (2 ^ e)) most k) at p
 
-  pub under_next : (e x : ℕ) → e < 15 → first_under most (15 - e) e a ≡ x → most < nearest_to a (2 ^ e) → first_under most (15 - suc e) (suc e) a ≡ x
-  under_next e x h p k =
+  pub under_next : (e x : ℕ) → first_under most (15 - e) e a ≡ x → e < 15 → most < nearest_to a (2 ^ e) → first_under most (15 - (e + 1)) (e + 1) a ≡ x
+  under_next e x p h k =
       let n : 15 - e ≡ suc (15 - suc e) = omega arith in
-      rw (n, lt-leb (nearest_to a (2 ^ e)) most k) at p
-
-  pub under_last : (e x : ℕ) → 15 ≤ e → first_under most (15 - e) e a ≡ x → e ≡ x
-  under_last e x h p = let n : 15 - e ≡ 0 = omega arith in rw n at p
+      rw add-one (rw (n, lt-leb (nearest_to a (2 ^ e)) most k) at p)
 
   under-most : (k e : ℕ) → first_under most k e a ≤ e + k
   under-most zero e = omega arith
@@ -123,27 +121,35 @@ module _ (most a : ℕ) (h : 0 < most) (g : 0 < a) where
 
 -- the code, as it is put together
 module _ (a e m : ℕ) where
-  pub plus-code : e ≡ exponent_under 2047 a → m ≡ nearest_to a (2 ^ e) → e * 2048 + m ≡ code_for (pos a)
+  pub plus_code : e ≡ exponent_under 2047 a → m ≡ nearest_to a (2 ^ e) → e * 2048 + m ≡ code_for (pos a)
   unfolding code_for
-  plus-code p q = rw (smallest-plus a, ← p, ← q)
+  plus_code p q = rw (smallest-plus a, ← p, ← q)
 
-  pub minus-code : e ≡ exponent_under 2048 (suc a) → m ≡ nearest_to (suc a) (2 ^ e) → 0 < m → 32768 + e * 2048 + (2048 - m) ≡ code_for (negsuc a)
+  pub minus_code : e ≡ exponent_under 2048 (suc a) → m ≡ nearest_to (suc a) (2 ^ e) → 0 < m → 32768 + e * 2048 + (2048 - m) ≡ code_for (negsuc a)
   unfolding code_for
-  minus-code p q h = rw (smallest-minus a, ← p, ← q) (signed m h)
+  minus_code p q h = rw (smallest-minus a, ← p, ← q) (signed m h)
     where
       signed : (n : ℕ) → 0 < n → 32768 + e * 2048 + (2048 - n) ≡ code_of (neg_ℤ (pos n)) e
       signed zero h = absurd (omega arith)
       signed (suc n) h = omega arith
 
-  pub plus-bounds : a ≤ 67043328 → e ≡ exponent_under 2047 a → m ≡ nearest_to a (2 ^ e) → (e ≤ 15) × (m ≤ 2047)
-  plus-bounds h p q = (
+  pub plus_bounds : a ≤ 67043328 → e ≡ exponent_under 2047 a → m ≡ nearest_to a (2 ^ e) → (e ≤ 15) × (m ≤ 2047)
+  plus_bounds h p q = (
     rw p (exponent-most 2047 a),
     rw (q, p) (exponent-meets 2047 a (let k = plus-meets a h in omega arith)),
   )
 
-  pub minus-bounds : a < 67108864 → e ≡ exponent_under 2048 (suc a) → m ≡ nearest_to (suc a) (2 ^ e) → (e ≤ 15) × (m ≤ 2048) × (0 < m)
-  minus-bounds h p q = (
+  pub minus_bounds : a < 67108864 → e ≡ exponent_under 2048 (suc a) → m ≡ nearest_to (suc a) (2 ^ e) → (e ≤ 15) × (m ≤ 2048) × (0 < m)
+  minus_bounds h p q = (
     rw p (exponent-most 2048 (suc a)),
     rw (q, p) (exponent-meets 2048 (suc a) (minus_meets (suc a) h)),
     rw (q, p) (exponent-some 2048 (suc a) (omega arith) (omega arith)),
   )
+
+-- the same of a size that is worked out as one more
+module _ (a e m : ℕ) (p : e ≡ exponent_under 2048 (a + 1)) (q : m ≡ nearest_to (a + 1) (2 ^ e)) where
+  pub below_code : 0 < m → 32768 + e * 2048 + (2048 - m) ≡ code_for (negsuc a)
+  below_code = minus_code a e m (rw add-one at p) (rw add-one at q)
+
+  pub below_bounds : a < 67108864 → (m ≤ 2048) × (0 < m)
+  below_bounds h = let b = minus_bounds a e m h (rw add-one at p) (rw add-one at q) in (b.1, b.2)

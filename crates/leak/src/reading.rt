@@ -1,4 +1,6 @@
 // What two octets stand for.
+#![tactic(auto, using(crate::proofs::Product::product_fits, crate::proofs::Product::product_is), unfolding(crate::specs::Float::mantissa_of))]
+
 ghost use Rattle.std.specs.Prelude.{◌≡◌};
 ghost use Rattle.leak.specs.Float.{mantissa_of, hundredths_of};
 
@@ -6,7 +8,7 @@ ghost use Rattle.leak.specs.Float.{mantissa_of, hundredths_of};
 fn mantissa(code: u16) -> i32
     ensures { result ≡ mantissa_of code }
 {
-    let low = (code % 2048) as i32;
+    let low = i32::from(code % 2048);
     if code < 32768 { low } else { low - 2048 }
 }
 
@@ -14,9 +16,6 @@ fn mantissa(code: u16) -> i32
 pub(crate) fn hundredths(code: u16) -> i32
     ensures { result ≡ hundredths_of code }
 {
-    let m = mantissa(code);
     let exponent = code / 2048 % 16;
-    let unit: u32 = 1 << exponent;
-    let scale = unit as i32;
-    m * scale
+    mantissa(code) * (1 << exponent)
 }

@@ -1,48 +1,14 @@
 -- By the sign: `Sides` takes the number apart into the size that `code_minus` and `code_plus` are given, and judges the range by it.
 use Rattle.std.specs.Prelude.{Ok}
-use Prim.Native.Nat.{◌<◌, ◌≤◌}
 use mathlib.Core.Bool.{true, false}
 use mathlib.Core.Path.{◌≡◌, sym, ap, ◌∙◌}
-use native.Mathlib.Omega.{arith}
 use lib.IntN.{negsuc}
 use lib.Signed.{mag, lt_z}
 use mir.Facts.{to_z-of_z}
 use mir.Syntax.{w64}
 use Rattle.leak.specs.Writing.{write_code}
-use Rattle.leak.proofs.Sides.{minus-side, plus-side, minus-refused, minus-below, minus-written, plus-refused, plus-most, plus-written}
+use Rattle.leak.proofs.Sides.{minus-side, plus-side, minus-refused, minus-written, plus-refused, plus-written}
 use Rattle.leak.proofs.write.Goals as goal
-
-pub overflow_sub-hundredths : goal.overflow_sub-hundredths
-overflow_sub-hundredths c =
-    (minus-side w64 c.args.hundredths c.ranges.hundredths c.if-hundredths-lt0.true).fits
-
-pub overflow_cast-hundredths : goal.overflow_cast-hundredths
-overflow_cast-hundredths c =
-    let z = c.args.hundredths in
-    let s = minus-side w64 z c.ranges.hundredths c.if-hundredths-lt0.true in
-    let h : lt_z (negsuc (mag z)) (negsuc 67108863) ≡ false = rw (to_z-of_z c.ranges.hundredths, s.is) at c.if-hundredths-ltminus67108864.false in
-    let k : mag z < 67108864 = minus-below (mag z) h in
-    rw s.back (tt, record { fits = omega (arith, k) })
-
-pub code_minus-requires : goal.code_minus-requires
-code_minus-requires c =
-    let z = c.args.hundredths in
-    let s = minus-side w64 z c.ranges.hundredths c.if-hundredths-lt0.true in
-    let h : lt_z (negsuc (mag z)) (negsuc 67108863) ≡ false = rw (to_z-of_z c.ranges.hundredths, s.is) at c.if-hundredths-ltminus67108864.false in
-    rw s.back (minus-below (mag z) h)
-
-pub overflow_cast-hundredths-else-hundredths-gt67043328 : goal.overflow_cast-hundredths-else-hundredths-gt67043328
-overflow_cast-hundredths-else-hundredths-gt67043328 c =
-    let z = c.args.hundredths in
-    let s = plus-side w64 z c.ranges.hundredths c.if-hundredths-lt0.false in
-    let k : mag z ≤ 67043328 = plus-most (mag z) (rw s.1 at c.if-hundredths-gt67043328.false) in
-    rw s.1 (tt, record { fits = omega (arith, k) })
-
-pub code_plus-requires : goal.code_plus-requires
-code_plus-requires c =
-    let z = c.args.hundredths in
-    let s = plus-side w64 z c.ranges.hundredths c.if-hundredths-lt0.false in
-    rw s.1 (plus-most (mag z) (rw s.1 at c.if-hundredths-gt67043328.false))
 
 pub returns-then-hundredths-ltminus67108864 : goal.returns-then-hundredths-ltminus67108864
 returns-then-hundredths-ltminus67108864 c =
