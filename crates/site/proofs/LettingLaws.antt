@@ -8,7 +8,9 @@ use lib.Dec.{eqb}
 use lib.ListN.{length, get_or, set, length-set}
 use lib.Seq.{get_or-set_same, get_or-set_other, ext_get_or}
 use Rattle.passing.proofs.PassingLaws.{passes-iff}
-use Rattle.passing.specs.Passing.{may_pass, passage_of, does_pass}
+use borrow.Author.Tests.{ne_eqb}
+use Rattle.passing.specs.Settings.{class_of}
+use Rattle.passing.specs.Passing.{is_ruled, may_pass, passage_of, does_pass}
 use Rattle.passing.specs.declared.Passage.TheVariants.{NotFitted}
 use Rattle.passing.specs.declared.Passage.{Passage}
 use Rattle.site.proofs.RecordLaws.{by_equal}
@@ -46,6 +48,13 @@ pub asked : (st : Stores) (kind destination direction : ℕ) (octets : List ℕ)
     → mark ≡ may_pass f.line f.codes f.table.now direction kind destination → mark ≡ record_passes st kind destination direction octets
 unfolding record_passes
 asked st kind destination direction octets w m = m ∙ rw (w.line, w.codes, w.table) refl
+
+-- .. which of an individual address asks no table
+pub bare-asked : (st : Stores) (kind destination direction : ℕ) (octets : List ℕ) {line : ℕ} {codes : List (List ℕ)} (table : List ℕ) {mark : Bool}
+    → (kind ≡ 1 → ⊥) → line ≡ line_of octets → codes ≡ codes_of octets → mark ≡ may_pass line codes table direction kind destination
+    → mark ≡ record_passes st kind destination direction octets
+unfolding record_passes may_pass is_ruled class_of
+bare-asked st kind destination direction octets table g l k m = m ∙ rw (l, k, ne_eqb kind 1 g) refl
 
 -- .. both ways, where a coupler is fitted
 pub fitted-both : (st : Stores) (kind destination : ℕ) (octets : List ℕ) {a b : Bool} → eqb (length octets) 0 ≡ false
