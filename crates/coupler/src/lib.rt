@@ -122,7 +122,8 @@ impl<'a> Coupler<'a> {
         let remembered = memory.side_of(self.setting.side).frame();
         let outcome = self.hand_on(remembered, octets, room);
         let accepted = outcome.refusal.is_none() & !self.from_ip();
-        let memory = memory.remembered_if(accepted, self.setting.side, octets);
+        let mut memory = memory;
+        memory.remembered_if(accepted, self.setting.side, octets);
         Stepped { outcome, memory }
     }
 

@@ -1,4 +1,4 @@
-// The frames that the TP1 sides remember, by value.
+// The frames that the TP1 sides remember.
 ghost use Rattle.std.specs.Prelude.{◌≡◌};
 ghost use Rattle.coupler.specs.Memory.{no_frame, recalled, remembering, side_of, remembered_on};
 ghost use Rattle.coupler.specs.Stages.{remembered_if};
@@ -26,15 +26,11 @@ impl Remembered {
     }
 
     #[tactic(auto, unfolding(crate::specs::Memory::remembering))]
-    fn remember(self, frame: &[u8]) -> Remembered
-        ensures { result ≡ remembering self frame.now }
+    fn remember(&mut self, frame: &[u8])
+        ensures { self.new ≡ remembering self.old frame.now }
     {
-        let mut octets = self.octets;
-        octets::lay(frame, 0, &mut octets);
-        Remembered {
-            size: frame.len(),
-            octets,
-        }
+        octets::lay(frame, 0, &mut self.octets);
+        self.size = frame.len();
     }
 }
 
@@ -46,30 +42,22 @@ impl Memory {
     }
 
     #[tactic(auto, unfolding(crate::specs::Memory::remembered_on))]
-    fn remember_on(self, side: u8, frame: &[u8]) -> Memory
-        ensures { result ≡ remembered_on self side frame.now }
+    fn remember_on(&mut self, side: u8, frame: &[u8])
+        ensures { self.new ≡ remembered_on self.old side frame.now }
     {
         if side == 0 {
-            Memory {
-                main: self.main.remember(frame),
-                ..self
-            }
+            self.main.remember(frame);
         } else {
-            Memory {
-                sub: self.sub.remember(frame),
-                ..self
-            }
+            self.sub.remember(frame);
         }
     }
 
     #[tactic(auto, unfolding(crate::specs::Stages::remembered_if))]
-    pub(crate) fn remembered_if(self, accepted: bool, side: u8, frame: &[u8]) -> Memory
-        ensures { result ≡ remembered_if accepted self side frame.now }
+    pub(crate) fn remembered_if(&mut self, accepted: bool, side: u8, frame: &[u8])
+        ensures { self.new ≡ remembered_if accepted self.old side frame.now }
     {
         if accepted {
-            self.remember_on(side, frame)
-        } else {
-            self
+            self.remember_on(side, frame);
         }
     }
 }

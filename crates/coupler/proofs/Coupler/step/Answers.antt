@@ -9,4 +9,4 @@ pub returns : goal.returns
 returns c =
     let a = c.args in
     did (coupler_by a.self.now.setting a.self.now.codes a.self.now.table.now) a.memory a.octets.now c.is_none.result
-    (c.frame-remembered.ensures ∙ ap recalled c.side_of.ensures) c.hand_on-outcome.ensures c.is_none.ensures c.from_ip.ensures c.remembered_if-memory.ensures
+    (c.frame-remembered.ensures ∙ ap recalled c.side_of.ensures) c.hand_on-outcome.ensures c.is_none.ensures c.from_ip.ensures c.remembered_if.ensures
