@@ -66,12 +66,12 @@ fn is_onward(line: u8, direction: u8, destination: u16) -> bool
 }
 
 pub(crate) fn is_ruled<'a>(
-    filter: Filter<'a>,
+    filter: &Filter<'a>,
     direction: u8,
     class: Class,
     destination: u16,
 ) -> bool
-    ensures { result ≡ is_ruled filter.entry.line filter.entry.table.now direction (class_number class) destination }
+    ensures { result ≡ is_ruled filter.now.line filter.now.table.now direction (class_number class) destination }
 {
     match class {
         Class::Individual => is_onward(filter.line, direction, destination),

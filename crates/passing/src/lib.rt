@@ -42,8 +42,8 @@ pub struct Filter<'a> {
 
 impl<'a> Filter<'a> {
     // Whether a coupler lets a telegram to this address pass in this direction.
-    pub fn may_pass(self, direction: u8, address: Address) -> bool
-        ensures { result ≡ may_pass self.entry.line self.entry.codes self.entry.table.now direction address.kind address.destination }
+    pub fn may_pass(&self, direction: u8, address: Address) -> bool
+        ensures { result ≡ may_pass self.now.line self.now.codes self.now.table.now direction address.kind address.destination }
     {
         let class = addresses::class_of(address);
         let code = settings::code_in(self.codes, direction, class);
@@ -53,8 +53,8 @@ impl<'a> Filter<'a> {
     }
 
     // What a coupler makes of a telegram to this address that comes to it with this count.
-    pub fn why_not(self, direction: u8, address: Address, count: u8) -> Passage
-        ensures { result ≡ passage_of self.entry.line self.entry.codes self.entry.table.now direction address.kind address.destination count }
+    pub fn why_not(&self, direction: u8, address: Address, count: u8) -> Passage
+        ensures { result ≡ passage_of self.now.line self.now.codes self.now.table.now direction address.kind address.destination count }
     {
         let class = addresses::class_of(address);
         let code = settings::code_in(self.codes, direction, class);

@@ -18,10 +18,10 @@ fn row_from(octets: &[u8], start: usize) -> [u8; 4]
 }
 
 // The two rows of four codes that start at an index, main to sub and sub to main.
-pub fn codes_from(octets: &[u8], start: usize) -> [[u8; 4]; 2]
-    requires { start < 256 }
+pub fn codes_from(octets: &[u8], start: u8) -> [[u8; 4]; 2]
     ensures { result ≡ codes_from octets.now start }
 {
+    let start = usize::from(start);
     [row_from(octets, start), row_from(octets, start + 4)]
 }
 
