@@ -1,5 +1,4 @@
--- A signed number of any width, taken apart by its sign into its size; and the writer's range, by the size.
-use Rattle.std.specs.Prelude.{Ok, Err}
+-- A signed number of any width, taken apart by its sign into its size.
 use Prim.Native.Nat.{ℕ, suc}
 use mathlib.Core.Bool.{true, false}
 use mathlib.Core.Path.{◌≡◌, refl, sym, ap, ◌∙◌}
@@ -10,9 +9,7 @@ use mir.Syntax.{Width}
 use mir.Val.{SFits, to_z, of_z}
 use mir.Facts.{to_z-of_z}
 use Rattle.octets.proofs.Truth.{never}
-use borrow.Author.Tests.{lt-leb, le-leb, le-ltb, ltb-true, ltb-false}
-use Rattle.frame.specs.declared.Refusal.TheVariants.{OutOfRange}
-use Rattle.leak.specs.Writing.{write_code, code_for}
+use borrow.Author.Tests.{le-ltb}
 use Rattle.leak.proofs.Codes.{sub-above}
 
 -- below zero: -1 less the number is its size less one
@@ -36,21 +33,3 @@ module _ (w : Width) where
   pub plus-side : (z : ℤ) → SFits w z → lt_z (to_z w (of_z w z)) (pos 0) ≡ false → (z ≡ pos (mag z)) × (to_z w (of_z w z) ≡ pos (mag z))
   plus-side (pos a) f h = (refl, to_z-of_z f)
   plus-side (negsuc a) f h = never (rw (to_z-of_z f) at h)
-
--- the range's two ends
-module _ (a : ℕ) where
-  pub minus-refused : lt_z (negsuc a) (negsuc 67108863) ≡ true → write_code (negsuc a) ≡ Err OutOfRange
-  unfolding write_code
-  minus-refused h = rw (lt-leb a 67108863 (ltb-true 67108863 a h))
-
-  pub minus-written : lt_z (negsuc a) (negsuc 67108863) ≡ false → write_code (negsuc a) ≡ Ok (code_for (negsuc a))
-  unfolding write_code
-  minus-written h = rw (le-leb a 67108863 (ltb-false 67108863 a h))
-
-  pub plus-refused : lt_z (pos 67043328) (pos a) ≡ true → write_code (pos a) ≡ Err OutOfRange
-  unfolding write_code
-  plus-refused h = rw (lt-leb a 67043328 (ltb-true 67043328 a h))
-
-  pub plus-written : lt_z (pos 67043328) (pos a) ≡ false → write_code (pos a) ≡ Ok (code_for (pos a))
-  unfolding write_code
-  plus-written h = rw (le-leb a 67043328 (ltb-false 67043328 a h))

@@ -14,6 +14,7 @@ ghost use Rattle.leak.specs.Total.{add_to};
 use frame::Refusal;
 
 // "7FFFh is invalid and refused (23)"
+#[tactic(auto, unfolding(crate::specs::Reading::read_code))]
 pub fn read(code: u16) -> Result<i32, Refusal>
     ensures { result ≡ read_code code }
 {
@@ -25,6 +26,7 @@ pub fn read(code: u16) -> Result<i32, Refusal>
 }
 
 // The same of the octets themselves, of which there have to be two.
+#[tactic(auto, unfolding(crate::specs::Reading::read_octets, crate::specs::Reading::read_code))]
 pub fn read_octets(octets: &[u8]) -> Result<i32, Refusal>
     ensures { result ≡ read_octets octets.now }
 {
@@ -38,6 +40,7 @@ pub fn read_octets(octets: &[u8]) -> Result<i32, Refusal>
 }
 
 // "The writer takes hundredths from -67,108,864 to 67,043,328, else refuses (14)"
+#[tactic(auto, unfolding(crate::specs::Writing::write_code))]
 pub fn write(hundredths: i64) -> Result<u16, Refusal>
     ensures { result ≡ write_code hundredths }
 {
@@ -55,6 +58,7 @@ pub fn write(hundredths: i64) -> Result<u16, Refusal>
 }
 
 // A payload, from TPCI on, is an increment if it writes a two-octet float to a group.
+#[tactic(auto, unfolding(crate::specs::Increment::increment_in))]
 pub fn increment(payload: &[u8]) -> Option<u16>
     ensures { result ≡ increment_in payload.now }
 {
