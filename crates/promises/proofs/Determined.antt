@@ -74,16 +74,16 @@ use Rattle.routing.proofs.information.Kinds as routing-information-kinds
 use Rattle.routing.proofs.information.Reads as routing-information-reads
 use Rattle.routing.proofs.write.Kinds as routing-write-kinds
 use Rattle.routing.proofs.write.Reads as routing-write-reads
-use Rattle.channels.proofs.all_closed.Kinds as channels-all-closed-kinds
-use Rattle.channels.proofs.all_closed.Reads as channels-all-closed-reads
-use Rattle.channels.proofs.channel_at.Kinds as channels-channel-at-kinds
-use Rattle.channels.proofs.channel_at.Reads as channels-channel-at-reads
-use Rattle.channels.proofs.put.Kinds as channels-put-kinds
-use Rattle.channels.proofs.put.Reads as channels-put-reads
-use Rattle.channels.proofs.opened.Kinds as channels-opened-kinds
-use Rattle.channels.proofs.opened.Reads as channels-opened-reads
-use Rattle.channels.proofs.counted.Kinds as channels-counted-kinds
-use Rattle.channels.proofs.counted.Reads as channels-counted-reads
+use Rattle.channels.proofs.Table.all_closed.Kinds as channels-all-closed-kinds
+use Rattle.channels.proofs.Table.all_closed.Reads as channels-all-closed-reads
+use Rattle.channels.proofs.Table.channel_at.Kinds as channels-channel-at-kinds
+use Rattle.channels.proofs.Table.channel_at.Reads as channels-channel-at-reads
+use Rattle.channels.proofs.Table.put.Kinds as channels-put-kinds
+use Rattle.channels.proofs.Table.put.Reads as channels-put-reads
+use Rattle.channels.proofs.Table.opened.Kinds as channels-opened-kinds
+use Rattle.channels.proofs.Table.opened.Reads as channels-opened-reads
+use Rattle.channels.proofs.Channel.counted.Kinds as channels-counted-kinds
+use Rattle.channels.proofs.Channel.counted.Reads as channels-counted-reads
 use Rattle.channels.proofs.raised.Kinds as channels-raised-kinds
 use Rattle.channels.proofs.raised.Reads as channels-raised-reads
 use Rattle.tunnelling.proofs.read_connection.Kinds as tunnelling-read-connection-kinds
@@ -329,7 +329,7 @@ pub channels-channel-at-stated : Stated channels-channel-at-kinds.ps channels-ch
 channels-channel-at-stated = record { determines = λ κs args r₁ r₂ w₁ w₂ x y. (x ∙ sym y, refl); free = λ κs args. tt; whole = λ κs args r e w. refl }
 
 pub channels-put-stated : Stated channels-put-kinds.ps channels-put-kinds.r channels-put-reads.Pre channels-put-reads.Post (λ κs a. channels-put-reads.ensures κs a tt)
-channels-put-stated = record { determines = λ κs args r₁ r₂ w₁ w₂ x y. (x ∙ sym y, refl); free = λ κs args. tt; whole = λ κs args r e w. refl }
+channels-put-stated = record { determines = λ κs args r₁ r₂ w₁ w₂ x y. ((λ i. record { channels = (x ∙ sym y) i }), refl); free = λ κs args. tt; whole = λ κs args r e w. refl }
 
 pub channels-opened-stated : Stated channels-opened-kinds.ps channels-opened-kinds.r channels-opened-reads.Pre channels-opened-reads.Post (λ κs a. channels-opened-reads.ensures κs a tt)
 channels-opened-stated = record { determines = λ κs args r₁ r₂ w₁ w₂ x y. ((λ i. record { channels = (x ∙ sym y) i }), refl); free = λ κs args. tt; whole = λ κs args r e w. refl }
@@ -366,7 +366,7 @@ pub exchange-receive-on-stated : Stated exchange-receive-on-kinds.ps exchange-re
 exchange-receive-on-stated = record { determines = λ κs args r₁ r₂ w₁ w₂ x y. let e = received-on-one x y in (e.0, λ i. (tt, (tt, (e.1 i, tt)))); free = λ κs args. tt; whole = λ κs args r e w. refl }
 
 pub exchange-receive-stated : Stated exchange-receive-kinds.ps exchange-receive-kinds.r exchange-receive-reads.Pre exchange-receive-reads.Post (λ κs a. exchange-receive-reads.ensures κs a tt)
-exchange-receive-stated = record { determines = λ κs args r₁ r₂ w₁ w₂ x y. let e = took_one x y in ((λ i. record { answer = e.0 i; table = record { channels = e.1.0 i } }), λ i. (tt, (tt, (e.1.1 i, tt)))); free = λ κs args. tt; whole = λ κs args r e w. refl }
+exchange-receive-stated = record { determines = λ κs args r₁ r₂ w₁ w₂ x y. let e = took_one x y in (e.0, λ i. (record { channels = e.1.0 i }, (tt, (e.1.1 i, tt)))); free = λ κs args. tt; whole = λ κs args r e w. refl }
 
 pub exchange-message-stated : StatedBy exchange-message-kinds.ps exchange-message-kinds.r (λ κs. SamePart) exchange-message-reads.Pre exchange-message-reads.Post (λ κs a. exchange-message-reads.ensures κs a tt)
 exchange-message-stated = record { determines = λ κs args r₁ r₂ w₁ w₂ x y. (part-one x y, refl); free = λ κs args. tt; whole = λ κs args r e w. refl }
@@ -381,7 +381,7 @@ pub exchange-confirm-on-stated : Stated exchange-confirm-on-kinds.ps exchange-co
 exchange-confirm-on-stated = record { determines = λ κs args r₁ r₂ w₁ w₂ x y. (x ∙ sym y, refl); free = λ κs args. tt; whole = λ κs args r e w. refl }
 
 pub exchange-confirm-stated : Stated exchange-confirm-kinds.ps exchange-confirm-kinds.r exchange-confirm-reads.Pre exchange-confirm-reads.Post (λ κs a. exchange-confirm-reads.ensures κs a tt)
-exchange-confirm-stated = record { determines = λ κs args r₁ r₂ w₁ w₂ x y. let e = called-one x y in ((λ i. record { answer = e.0 i; table = record { channels = e.1 i } }), refl); free = λ κs args. tt; whole = λ κs args r e w. refl }
+exchange-confirm-stated = record { determines = λ κs args r₁ r₂ w₁ w₂ x y. let e = called-one x y in (e.0, λ i. (record { channels = e.1 i }, (tt, tt))); free = λ κs args. tt; whole = λ κs args r e w. refl }
 
 -- passing
 
