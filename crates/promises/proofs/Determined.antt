@@ -116,14 +116,16 @@ use Rattle.passing.proofs.settings.are_codes.Kinds as passing-are-codes-kinds
 use Rattle.passing.proofs.settings.are_codes.Reads as passing-are-codes-reads
 use Rattle.passing.proofs.settings.asks_table.Kinds as passing-asks-table-kinds
 use Rattle.passing.proofs.settings.asks_table.Reads as passing-asks-table-reads
+use Rattle.passing.proofs.settings.codes_from.Kinds as passing-codes-from-kinds
+use Rattle.passing.proofs.settings.codes_from.Reads as passing-codes-from-reads
 use Rattle.passing.proofs.settings.table_fits.Kinds as passing-table-fits-kinds
 use Rattle.passing.proofs.settings.table_fits.Reads as passing-table-fits-reads
 use Rattle.passing.proofs.is_own.Kinds as passing-is-own-kinds
 use Rattle.passing.proofs.is_own.Reads as passing-is-own-reads
 use Rattle.passing.proofs.stays.Kinds as passing-stays-kinds
 use Rattle.passing.proofs.stays.Reads as passing-stays-reads
-use Rattle.passing.proofs.may_pass.Kinds as passing-may-pass-kinds
-use Rattle.passing.proofs.may_pass.Reads as passing-may-pass-reads
+use Rattle.passing.proofs.Filter.may_pass.Kinds as passing-may-pass-kinds
+use Rattle.passing.proofs.Filter.may_pass.Reads as passing-may-pass-reads
 use Rattle.passing.proofs.hopped_count.Kinds as passing-hopped-count-kinds
 use Rattle.passing.proofs.hopped_count.Reads as passing-hopped-count-reads
 use Rattle.coupler.proofs.Coupler.from_ip.Kinds as coupler-from-ip-kinds
@@ -154,16 +156,16 @@ use Rattle.klumdray.proofs.klumdray_routing_write.Kinds as klumdray-routing-writ
 use Rattle.klumdray.proofs.klumdray_routing_write.Reads as klumdray-routing-write-reads
 use Rattle.klumdray.proofs.klumdray_step.Kinds as klumdray-step-kinds
 use Rattle.klumdray.proofs.klumdray_step.Reads as klumdray-step-reads
-use Rattle.passing.proofs.why_not.Kinds as passing-why-not-kinds
-use Rattle.passing.proofs.why_not.Reads as passing-why-not-reads
-use Rattle.site.proofs.stores.table_of.Kinds as site-table-of-kinds
-use Rattle.site.proofs.stores.table_of.Reads as site-table-of-reads
+use Rattle.passing.proofs.Filter.why_not.Kinds as passing-why-not-kinds
+use Rattle.passing.proofs.Filter.why_not.Reads as passing-why-not-reads
+use Rattle.site.proofs.stores.Stores.table_of.Kinds as site-table-of-kinds
+use Rattle.site.proofs.stores.Stores.table_of.Reads as site-table-of-reads
 use Rattle.site.proofs.survey.Kinds as site-survey-kinds
 use Rattle.site.proofs.survey.Reads as site-survey-reads
-use Rattle.site.proofs.letting.Kinds as site-letting-kinds
-use Rattle.site.proofs.letting.Reads as site-letting-reads
-use Rattle.site.proofs.why_not.Kinds as site-why-not-kinds
-use Rattle.site.proofs.why_not.Reads as site-why-not-reads
+use Rattle.site.proofs.Surveyed.letting.Kinds as site-letting-kinds
+use Rattle.site.proofs.Surveyed.letting.Reads as site-letting-reads
+use Rattle.site.proofs.Surveyed.why_not.Kinds as site-why-not-kinds
+use Rattle.site.proofs.Surveyed.why_not.Reads as site-why-not-reads
 use Rattle.tracer.proofs.query_of.Kinds as tracer-query-of-kinds
 use Rattle.tracer.proofs.query_of.Reads as tracer-query-of-reads
 use Rattle.tracer.proofs.main_side.Kinds as tracer-main-side-kinds
@@ -391,6 +393,9 @@ passing-are-codes-stated = record { determines = λ κs args r₁ r₂ w₁ w₂
 pub passing-asks-table-stated : Stated passing-asks-table-kinds.ps passing-asks-table-kinds.r passing-asks-table-reads.Pre passing-asks-table-reads.Post (λ κs a. passing-asks-table-reads.ensures κs a tt)
 passing-asks-table-stated = record { determines = λ κs args r₁ r₂ w₁ w₂ x y. (x ∙ sym y, refl); free = λ κs args. tt; whole = λ κs args r e w. refl }
 
+pub passing-codes-from-stated : Stated passing-codes-from-kinds.ps passing-codes-from-kinds.r passing-codes-from-reads.Pre passing-codes-from-reads.Post (λ κs a. passing-codes-from-reads.ensures κs a tt)
+passing-codes-from-stated = record { determines = λ κs args r₁ r₂ w₁ w₂ x y. (x ∙ sym y, refl); free = λ κs args. tt; whole = λ κs args r e w. refl }
+
 pub passing-table-fits-stated : Stated passing-table-fits-kinds.ps passing-table-fits-kinds.r passing-table-fits-reads.Pre passing-table-fits-reads.Post (λ κs a. passing-table-fits-reads.ensures κs a tt)
 passing-table-fits-stated = record { determines = λ κs args r₁ r₂ w₁ w₂ x y. (x ∙ sym y, refl); free = λ κs args. tt; whole = λ κs args r e w. refl }
 
@@ -455,7 +460,7 @@ pub tracer-main-side-stated : Stated tracer-main-side-kinds.ps tracer-main-side-
 tracer-main-side-stated = record { determines = λ κs args r₁ r₂ w₁ w₂ x y. (x ∙ sym y, refl); free = λ κs args. tt; whole = λ κs args r e w. refl }
 
 pub tracer-trace-stated : Stated tracer-trace-kinds.ps tracer-trace-kinds.r tracer-trace-reads.Pre tracer-trace-reads.Post (λ κs a. tracer-trace-reads.ensures κs a tt)
-tracer-trace-stated = record { determines = λ κs args r₁ r₂ w₁ w₂ x y. let e = traced-one x y in (e.0, λ i. (tt, (tt, (tt, (tt, (e.1 i, tt)))))); free = λ κs args. tt; whole = λ κs args r e w. refl }
+tracer-trace-stated = record { determines = λ κs args r₁ r₂ w₁ w₂ x y. let e = traced-one x y in (e.0, λ i. (tt, (tt, (tt, (e.1 i, tt))))); free = λ κs args. tt; whole = λ κs args r e w. refl }
 
 pub tracer-why-stated : Stated tracer-why-kinds.ps tracer-why-kinds.r tracer-why-reads.Pre tracer-why-reads.Post (λ κs a. tracer-why-reads.ensures κs a tt)
 tracer-why-stated = record { determines = λ κs args r₁ r₂ w₁ w₂ x y. (x ∙ sym y, refl); free = λ κs args. tt; whole = λ κs args r e w. refl }

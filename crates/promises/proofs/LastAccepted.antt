@@ -10,7 +10,7 @@ use mathlib.Core.Path.{◌≡◌, refl, sym, ap, ◌∙◌, subst}
 use native.Mathlib.Omega.{arith}
 use lib.Dec.{eqb}
 use lib.ListN.{length, length-replicate}
-use borrow.Author.Tests.{eqb-true, eqb-false, ne_eqb, not-true}
+use borrow.Author.Tests.{eqb-true, eqb-false, not-true}
 use Rattle.coupler.proofs.Promised.{Roomy}
 use Rattle.coupler.proofs.Repetition.{Agrees}
 use Rattle.coupler.specs.Memory.{kept, recalled, zeros, no_memory, side_of}

@@ -1,5 +1,5 @@
 -- Document 01, "Telegrams to check against": the cases marked P; and those that document 02 adds, R-2's and R-4's. As one list.
-use Rattle.std.specs.Prelude.{ℕ, ◌/◌, true, false, cond, List, [], ◌∷◌, ◌++◌, map, ◌≡◌, eqb, ℤ, pos, negsuc, length, take, replicate, Result, Ok, Err, None, is_none}
+use Rattle.std.specs.Prelude.{ℕ, ◌/◌, true, false, cond, List, [], ◌∷◌, ◌++◌, map, ◌≡◌, ℤ, pos, negsuc, length, take, replicate, Result, Ok, Err, None, is_none}
 use Rattle.passing.specs.Passing.{table_octet, table_bit}
 use Rattle.coupler.specs.Setting.{setting_of}
 use Rattle.coupler.specs.Memory.{no_memory}
