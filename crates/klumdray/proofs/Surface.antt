@@ -1,6 +1,6 @@
 -- A call of the surface is the inner call behind a test whether the numbers fit: of the writers said once for every format.
 use Rattle.std.specs.Prelude.{Result, Ok, Err, Option, Some, None}
-use Prim.Native.Nat.{ℕ, ◌^◌, ◌≤◌, ◌<◌}
+use Prim.Native.Nat.{ℕ, ◌%◌, ◌^◌, ◌≤◌, ◌<◌}
 use mathlib.Core.Bool.{Bool, true, false, cond, ◌&&◌}
 use mathlib.Core.List.{List}
 use mathlib.Core.Path.{◌≡◌, refl, sym, ap, ◌∙◌, subst}
@@ -14,7 +14,7 @@ use Rattle.frame.specs.Order.{first_of}
 use Rattle.frame.specs.Writing.{written, room_after, Wrote}
 use Rattle.frame.specs.declared.Meaning.{Meaning}
 use Rattle.frame.specs.declared.Refusal.TheVariants.{OutOfRange}
-use Rattle.klumdray.specs.Numbers.{flags_of, meaning_number, code_number, are_octets, are_words, are_marks, are_connected, written_number, WroteNumber}
+use Rattle.klumdray.specs.Numbers.{flags_of, meaning_number, meaning_from, code_number, are_numbers, are_flags, are_octets, are_words, are_marks, are_connected, written_number, WroteNumber}
 use Rattle.klumdray.specs.Stages.{Sized, given}
 use Rattle.klumdray.specs.Traces.{traced_number, explanation_number, query_fits, trace_through_tests, TracedThrough, why_through}
 use Rattle.octets.proofs.Truth.{and-true, and_yes}
@@ -166,3 +166,16 @@ query-fit start kind destination count e =
     let two = and-true (ltb start 256 && ltb kind 256) (ltb destination 65536) three.0 in
     let one = and-true (ltb start 256) (ltb kind 256) two.0 in
     (ltb-true start 256 one.0, (ltb-true kind 256 one.1, (ltb-true destination 65536 two.1, ltb-true count 256 three.1)))
+
+-- a meaning whose numbers fit loses nothing where each is cut to its width
+pub meaning-kept : (extended first priority source group destination count : ℕ) {m : Meaning} → are_numbers extended first priority source group destination count ≡ true
+    → m ≡ meaning_from extended first (priority % 256) (source % 65536) group (destination % 65536) (count % 256) → m ≡ meaning_from extended first priority source group destination count
+meaning-kept extended first priority source group destination count e h =
+    let both = and-true (are_flags extended first group && are_octets priority count) (are_words source destination) e in
+    let octets = octets-fit priority count (and-true (are_flags extended first group) (are_octets priority count) both.0).1 in
+    let words = words-fit source destination both.1 in
+    let p : priority % 256 ≡ priority = omega arith in
+    let c : count % 256 ≡ count = omega arith in
+    let s : source % 65536 ≡ source = omega arith in
+    let d : destination % 65536 ≡ destination = omega arith in
+    rw (p, c, s, d) at h
