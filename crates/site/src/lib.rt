@@ -42,19 +42,21 @@ fn has_table<'a>(octets: &[u8], stores: Stores<'a>) -> bool
 fn judge_record<'a>(octets: &[u8], stores: Stores<'a>, twice: bool) -> Result<(), Refusal>
     ensures { result ≡ first_of (record_tests (stores_in stores.entry) twice octets.now) }
 {
+    if !records::is_marked(octets) {
+        return Err(Refusal::WrongRecord);
+    }
     let allowed = passing::settings::are_codes(records::codes_of(octets));
     let wrong = (records::line_of(octets) == 0) | !allowed;
-    if !records::is_marked(octets) {
-        Err(Refusal::WrongRecord)
-    } else if wrong {
-        Err(Refusal::WrongSetting)
-    } else if !has_table(octets, stores) {
-        Err(Refusal::NoTable)
-    } else if twice {
-        Err(Refusal::LineTwice)
-    } else {
-        Ok(())
+    if wrong {
+        return Err(Refusal::WrongSetting);
     }
+    if !has_table(octets, stores) {
+        return Err(Refusal::NoTable);
+    }
+    if twice {
+        return Err(Refusal::LineTwice);
+    }
+    Ok(())
 }
 
 // No coupler is looked up in a site that is refused.

@@ -24,8 +24,8 @@ returns-then-twice c =
       c.if-twice.true,
     ) refl
 
-pub returns-else-twice : goal.returns-else-twice
-returns-else-twice c =
+pub returns : goal.returns
+returns c =
     rw (
       sym c.is_marked.ensures ∙ c.if-not-is_marked.false,
       ← c.line_of.ensures,
