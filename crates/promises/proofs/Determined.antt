@@ -158,8 +158,8 @@ use Rattle.klumdray.proofs.klumdray_step.Kinds as klumdray-step-kinds
 use Rattle.klumdray.proofs.klumdray_step.Reads as klumdray-step-reads
 use Rattle.passing.proofs.Filter.why_not.Kinds as passing-why-not-kinds
 use Rattle.passing.proofs.Filter.why_not.Reads as passing-why-not-reads
-use Rattle.site.proofs.stores.Stores.table_of.Kinds as site-table-of-kinds
-use Rattle.site.proofs.stores.Stores.table_of.Reads as site-table-of-reads
+use Rattle.site.proofs.Stores.table_of.Kinds as site-table-of-kinds
+use Rattle.site.proofs.Stores.table_of.Reads as site-table-of-reads
 use Rattle.site.proofs.survey.Kinds as site-survey-kinds
 use Rattle.site.proofs.survey.Reads as site-survey-reads
 use Rattle.site.proofs.Surveyed.letting.Kinds as site-letting-kinds
