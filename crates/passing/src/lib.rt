@@ -1,5 +1,6 @@
 // Who may pass a coupler, with what count, and if not, why not. A direction is 0 main to sub or 1 sub
-// to main; an address is its kind (0 individual, 1 group) and its number.
+// to main; an address is its kind (0 individual, 1 group) and its number. Directions, kinds and codes stay numbers:
+// other numbers are promised answers (`code_in`, `is_onward`, `class_of`, `is_code`), and an enum would ask more.
 #![tactic(auto)]
 
 mod addresses;

@@ -19,7 +19,8 @@ use passing::{Address, Filter, Passage};
 pub use stores::Stores;
 
 // A well-formed site: its records, its stores, and for each of the 256 lines where the record of its coupler
-// starts; FFFFh where there is none.
+// starts; FFFFh where there is none (an `Option<u16>` takes 1,024 octets in place of 512: fixed memory). It has no invariant:
+// `letting` and `why_not` promise an answer on starts that no survey gave, too.
 #[derive(Clone, Copy)]
 pub struct Surveyed<'a> {
     pub records: &'a [u8],
