@@ -64,6 +64,7 @@ pub struct Stepped {
     pub memory: Memory,
 }
 
+// The numbers as a Setting (docs/DECISIONS.md: report and the programs make theirs by it).
 pub fn setting_of(line: u8, side: u8, medium: u8) -> Setting
     ensures { result ≡ setting_of line side medium }
 {
@@ -115,7 +116,7 @@ impl<'a> Coupler<'a> {
         }
     }
 
-    // One step, its memory by value.
+    // One step, its memory by value: the core that the step in place stands on (docs/DECISIONS.md).
     pub fn step(&self, memory: Memory, octets: &[u8], room: &mut [u8]) -> Stepped
         ensures { Did (coupler_by self.now.setting self.now.codes self.now.table.now) memory octets.now room.old result.outcome result.memory room.new }
     {

@@ -27,7 +27,7 @@ fn is_other_length(octets: &[u8]) -> bool
     total as usize != octets.len()
 }
 
-// The header of a datagram, told which service is wanted.
+// The header of a datagram, told which service is wanted: a number, and no enum, for the contract is of every service.
 pub fn read_header(octets: &[u8], service: u16) -> Result<(), Refusal>
     ensures { result ≡ read_header service octets.now }
 {

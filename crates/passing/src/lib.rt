@@ -26,7 +26,8 @@ pub enum Passage {
     UsedUp,
 }
 
-// Where a telegram goes: its kind (0 individual, 1 group) and its number.
+// Where a telegram goes: its kind (0 individual, 1 group) and its number. Kind and direction are numbers, and no enums:
+// the calls answer on every other too (`class_of`, `code_in`; docs/DECISIONS.md).
 #[derive(Clone, Copy, PartialEq, Eq, Debug)]
 pub struct Address {
     pub kind: u8,

@@ -24,6 +24,7 @@ fn put_standard_head(meaning: Meaning, lg: u8, room: &mut [u8]) -> u8
     head[0] ^ head[1] ^ head[2] ^ head[3] ^ head[4] ^ head[5]
 }
 
+// Beside the standard head, and not one function with it: each is the list of its layout's octets, and nothing else is alike.
 fn put_extended_head(meaning: Meaning, lg: u8, room: &mut [u8]) -> u8
     ensures { (room.new ≡ laid (extended_head meaning lg) 0 room.old) × (result ≡ xor_from 0 (extended_head meaning lg)) }
 {

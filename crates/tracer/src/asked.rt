@@ -33,6 +33,7 @@ impl<'a> Asked<'a> {
         }
     }
 
+    // A telegram that has stopped before stays so (`hand_on_names_the_last_coupler`).
     fn hand_on(&self, walk: Result<u8, Stop>, direction: u8, coupler: u8) -> Result<u8, Stop>
         ensures { result ≡ handed_on (stores_in self.now.site.now.stores) self.now.site.now.records.now self.now.query walk (crossing direction coupler) }
     {
@@ -60,7 +61,8 @@ impl<'a> Asked<'a> {
         self.walk_up(next, crate::main_side(from), to)
     }
 
-    // Down to a line from the first of its main sides that the other's have too.
+    // Down to a line from the first of its main sides that the other's have too. It goes first and hands on then, the other way
+    // round than `walk_up`: one function would have both bodies.
     fn walk_down(&self, walk: Result<u8, Stop>, from: u8, to: u8) -> Result<u8, Stop>
         ensures { result ≡ walked (stores_in self.now.site.now.stores) self.now.site.now.records.now self.now.query walk (down_over (before_common (main_sides to) (main_sides from))) }
     {

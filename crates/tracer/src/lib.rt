@@ -19,8 +19,9 @@ use frame::Refusal;
 use passing::{Address, Passage};
 use site::Stores;
 
-// What a planner asks: starting line, kind (0 individual, 1 group), destination, count.
-#[derive(Clone, Copy)]
+// What a planner asks: starting line, kind (0 individual, 1 group), destination, count. The kind is a number, and no enum:
+// another is refused by 14 (`asking_tests`).
+#[derive(Clone, Copy, PartialEq, Eq, Debug)]
 pub struct Query {
     pub start: u8,
     pub kind: u8,
@@ -29,7 +30,7 @@ pub struct Query {
 }
 
 // "The result also carries the number of forwardings made on the site".
-#[derive(Clone, Copy)]
+#[derive(Clone, Copy, PartialEq, Eq, Debug)]
 pub struct Traced {
     pub lines: usize,
     pub forwardings: usize,
@@ -42,8 +43,9 @@ pub struct Arrivals {
     pub forwardings: usize,
 }
 
-// The first coupler on the path that does not hand the telegram on, and why.
-#[derive(Clone, Copy)]
+// The first coupler on the path that does not hand the telegram on, and why. The direction is the number that passing is
+// asked with.
+#[derive(Clone, Copy, PartialEq, Eq, Debug)]
 pub struct Stop {
     pub coupler: u8,
     pub direction: u8,

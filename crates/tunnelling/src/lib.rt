@@ -25,6 +25,7 @@ pub struct Request {
     pub message: Message,
 }
 
+// The status is an octet, and no enum: whatever it is, it is read and written.
 #[derive(Clone, Copy, PartialEq, Eq, Debug)]
 pub struct Acknowledgement {
     pub channel: u8,
