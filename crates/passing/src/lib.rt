@@ -26,8 +26,7 @@ pub enum Passage {
     UsedUp,
 }
 
-// Where a telegram goes: its kind (0 individual, 1 group) and its number. Kind and direction are numbers, and no enums:
-// the calls answer on every other too (`class_of`, `code_in`; docs/DECISIONS.md).
+// Where a telegram goes: its kind (0 individual, 1 group) and its number.
 #[derive(Clone, Copy, PartialEq, Eq, Debug)]
 pub struct Address {
     pub kind: u8,
