@@ -179,3 +179,14 @@ meaning-kept extended first priority source group destination count e h =
     let s : source % 65536 ≡ source = omega arith in
     let d : destination % 65536 ≡ destination = omega arith in
     rw (p, c, s, d) at h
+
+-- and a query likewise
+pub query-kept : (start kind destination count : ℕ) {q : Query} → query_fits (query_of start kind destination count) ≡ true
+    → q ≡ query_of (start % 256) (kind % 256) (destination % 65536) (count % 256) → q ≡ query_of start kind destination count
+query-kept start kind destination count e h =
+    let fit = query-fit start kind destination count e in
+    let s : start % 256 ≡ start = omega arith in
+    let k : kind % 256 ≡ kind = omega arith in
+    let d : destination % 65536 ≡ destination = omega arith in
+    let c : count % 256 ≡ count = omega arith in
+    rw (s, k, d, c) at h
