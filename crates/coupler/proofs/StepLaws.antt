@@ -6,6 +6,7 @@ use mathlib.Core.Bool.{Bool, true, false, not, cond, ◌&&◌}
 use mathlib.Core.List.{List}
 use mathlib.Core.Path.{◌≡◌, refl, sym, ap, ◌∙◌, subst}
 use native.Mathlib.Omega.{arith}
+use lib.Dec.{eqb}
 use lib.ListN.{length, drop}
 use borrow.Author.Tests.{ltb-false}
 use Rattle.cemi.specs.Writing.{message_in_range}
@@ -20,7 +21,9 @@ use Rattle.coupler.specs.Stages.{Sent, PassedOn, HandedBy}
 use Rattle.coupler.specs.declared.Memory.{Memory}
 use Rattle.coupler.specs.declared.Outcome.{Outcome}
 use Rattle.coupler.specs.declared.Setting.{Setting}
+use Rattle.frame.proofs.Numbers.{refused-number}
 use Rattle.frame.proofs.Order.{passed-iff}
+use Rattle.frame.specs.Answers.{refusal_number}
 use Rattle.frame.proofs.Valid.{ranges-of, ranged, most-payload}
 use Rattle.frame.proofs.Writing.{put-iff, wrote-over}
 use Rattle.frame.specs.Order.{first_of}
@@ -110,6 +113,13 @@ memory-by-refusal k remembered m s (frame x p) = go (from_ip k)
     go true = refl
     go false = refl
 memory-by-refusal k remembered m s (nothing r) = refl
+
+-- and by its number
+pub memory-by-number : (k : Coupler) (remembered : List ℕ) (m : Memory) (s : List ℕ) (h : Heard)
+    → remembered_if (eqb (refusal_number (outcome_by k remembered s h).refusal) 0 && not (from_ip k)) m k.setting.side s ≡ memory_after k m s h
+unfolding remembered_if
+memory-by-number k remembered m s (frame x p) = memory-by-refusal k remembered m s (frame x p)
+memory-by-number k remembered m s (nothing r) = rw (refused-number r)
 
 -- what `Option::is_none` ensures, as a value
 pub none-told : (o : Option Refusal) (b : Bool) → is_some o ≡ not b → b ≡ is_none o

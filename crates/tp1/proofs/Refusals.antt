@@ -7,7 +7,7 @@ use mathlib.Core.Logic.{◌↔◌}
 use mathlib.Core.Path.{◌≡◌, refl}
 use lib.Dec.{ltb}
 use lib.ListN.{length, take, drop}
-use Rattle.frame.proofs.Order.{gives_not, accepted-by, refused-by, once_by}
+use Rattle.frame.proofs.Order.{gives_not, accepted-by, refused-by, once_by, results-differ}
 use Rattle.frame.specs.Fields.{is_control}
 use Rattle.frame.specs.Order.{NoneOf, FirstIs, ◌gives◌}
 use Rattle.frame.specs.declared.Meaning.{Meaning}
@@ -20,18 +20,18 @@ module _ (s : List ℕ) where
   -- accepted with the meaning m exactly if no test of the order is true and the octets mean m
   pub accepted-iff : (m : Meaning) → read_tp1 s ≡ Ok m ↔ (NoneOf (tp1_tests s) × (meaning_in s ≡ m))
   unfolding read_tp1
-  accepted-iff = accepted-by (tp1_tests s) (meaning_in s)
+  accepted-iff = accepted-by results-differ (tp1_tests s) (meaning_in s)
 
   -- refused with r exactly if a test of the order that gives r is true and none before it is
   pub refused-iff : (r : Refusal) → read_tp1 s ≡ Err r ↔ FirstIs (tp1_tests s) r
   unfolding read_tp1
-  refused-iff = refused-by (tp1_tests s) (meaning_in s)
+  refused-iff = refused-by results-differ (tp1_tests s) (meaning_in s)
 
   once-at : (k : ℕ) (b : Bool) (r : Refusal) → tp1_tests s ≡ take k (tp1_tests s) ++ (b gives r ∷ drop (suc k) (tp1_tests s))
       → gives_not (take k (tp1_tests s)) r ≡ true → gives_not (drop (suc k) (tp1_tests s)) r ≡ true
       → read_tp1 s ≡ Err r ↔ (NoneOf (take k (tp1_tests s)) × (b ≡ true))
   unfolding read_tp1
-  once-at = once_by (tp1_tests s) (meaning_in s)
+  once-at = once_by results-differ (tp1_tests s) (meaning_in s)
 
   -- the refusals that one test alone gives: exactly if that test is true and none before it is
   pub refused-2 : read_tp1 s ≡ Err NotData ↔ (NoneOf (take 1 (tp1_tests s)) × (not (is_control (octet_at s 0)) ≡ true))

@@ -12,7 +12,7 @@ use lib.ListN.{length, take, drop}
 use Rattle.cemi.specs.Codes.{is_read}
 use Rattle.cemi.specs.Reading.{information_size, body, is_other_format, is_escape, is_long_standard, body_size}
 use Rattle.cemi.specs.declared.Codes.TheVariants.{All}
-use Rattle.frame.proofs.Order.{gives_not, accepted-by, refused-by, once_by}
+use Rattle.frame.proofs.Order.{gives_not, accepted-by, refused-by, once_by, results-differ}
 use Rattle.frame.specs.Order.{NoneOf, FirstIs, ◌gives◌}
 use Rattle.frame.specs.declared.Refusal.TheVariants.{OtherFormat, Escape, LeftOver, OtherCode, InformationEscape, LongStandard, OtherHeader, OtherService, OtherLength, OtherConnection}
 use Rattle.frame.specs.declared.Refusal.{Refusal}
@@ -27,18 +27,18 @@ module _ (s : List ℕ) where
   -- accepted as the request x exactly if no test of the order is true and the octets are of that channel, counter and message
   pub request-accepted-iff : (x : Request) → read_request s ≡ Ok x ↔ (NoneOf (request_tests s) × (request_in s ≡ x))
   unfolding read_request
-  request-accepted-iff = accepted-by (request_tests s) (request_in s)
+  request-accepted-iff = accepted-by results-differ (request_tests s) (request_in s)
 
   -- refused with r exactly if a test of the order that gives r is true and none before it is
   pub request-refused-iff : (r : Refusal) → read_request s ≡ Err r ↔ FirstIs (request_tests s) r
   unfolding read_request
-  request-refused-iff = refused-by (request_tests s) (request_in s)
+  request-refused-iff = refused-by results-differ (request_tests s) (request_in s)
 
   request-once : (k : ℕ) (b : Bool) (r : Refusal) → request_tests s ≡ take k (request_tests s) ++ (b gives r ∷ drop (suc k) (request_tests s))
       → gives_not (take k (request_tests s)) r ≡ true → gives_not (drop (suc k) (request_tests s)) r ≡ true
       → read_request s ≡ Err r ↔ (NoneOf (take k (request_tests s)) × (b ≡ true))
   unfolding read_request
-  request-once = once_by (request_tests s) (request_in s)
+  request-once = once_by results-differ (request_tests s) (request_in s)
 
   -- the refusals that one test alone gives: exactly if that test is true and none before it is
   pub request-refused-10 : read_request s ≡ Err OtherHeader ↔ (NoneOf (take 1 (request_tests s)) × (is_other_header s ≡ true))
@@ -74,17 +74,17 @@ module _ (s : List ℕ) where
   -- an acknowledgement, likewise
   pub acknowledgement-accepted-iff : (a : Acknowledgement) → read_acknowledgement s ≡ Ok a ↔ (NoneOf (acknowledgement_tests s) × (acknowledgement_in s ≡ a))
   unfolding read_acknowledgement
-  acknowledgement-accepted-iff = accepted-by (acknowledgement_tests s) (acknowledgement_in s)
+  acknowledgement-accepted-iff = accepted-by results-differ (acknowledgement_tests s) (acknowledgement_in s)
 
   pub acknowledgement-refused-iff : (r : Refusal) → read_acknowledgement s ≡ Err r ↔ FirstIs (acknowledgement_tests s) r
   unfolding read_acknowledgement
-  acknowledgement-refused-iff = refused-by (acknowledgement_tests s) (acknowledgement_in s)
+  acknowledgement-refused-iff = refused-by results-differ (acknowledgement_tests s) (acknowledgement_in s)
 
   acknowledgement-once : (k : ℕ) (b : Bool) (r : Refusal) → acknowledgement_tests s ≡ take k (acknowledgement_tests s) ++ (b gives r ∷ drop (suc k) (acknowledgement_tests s))
       → gives_not (take k (acknowledgement_tests s)) r ≡ true → gives_not (drop (suc k) (acknowledgement_tests s)) r ≡ true
       → read_acknowledgement s ≡ Err r ↔ (NoneOf (take k (acknowledgement_tests s)) × (b ≡ true))
   unfolding read_acknowledgement
-  acknowledgement-once = once_by (acknowledgement_tests s) (acknowledgement_in s)
+  acknowledgement-once = once_by results-differ (acknowledgement_tests s) (acknowledgement_in s)
 
   pub acknowledgement-refused-10 : read_acknowledgement s ≡ Err OtherHeader ↔ (NoneOf (take 1 (acknowledgement_tests s)) × (is_other_header s ≡ true))
   acknowledgement-refused-10 = acknowledgement-once 1 _ OtherHeader refl refl refl
