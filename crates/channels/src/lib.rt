@@ -21,6 +21,7 @@ pub struct Table {
 }
 
 impl Channel {
+    // Beside `fresh`: two of the paper's words, each with its own wrong programs.
     fn closed() -> Channel
         ensures { result ≡ closed }
     {

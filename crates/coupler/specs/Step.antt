@@ -11,6 +11,7 @@ use Rattle.tp1.specs.Reading.{tp1_tests, read_tp1, payload_in}
 use Rattle.cemi.specs.declared.Message.{Message}
 use Rattle.routing.specs.Layout.{routing_octets}
 use Rattle.routing.specs.Reading.{routing_tests, read_routing, routed_payload}
+use Rattle.coupler.specs.declared.Coupler.{Coupler as Lent}
 use Rattle.coupler.specs.declared.Acknowledgement.{Acknowledgement}
 use Rattle.coupler.specs.declared.Acknowledgement.TheVariants.{Silence, Acknowledged}
 use Rattle.coupler.specs.declared.Outcome.{Outcome}
@@ -29,6 +30,10 @@ pub record Coupler : Type 0 where
 
 abbrev pub coupler_by : Setting → List (List ℕ) → List ℕ → Coupler
 coupler_by setting codes table = record { setting = setting; codes = codes; table = table }
+
+-- the coupler that a call is lent
+abbrev pub coupler_in : Lent → Coupler
+coupler_in k = coupler_by k.setting k.codes k.table.now
 
 -- "Order: 15, 18 (table length not 8,192, or 0 allowed if no group code is 1), 14 (receiving side 0 main, 1 sub; main medium 0 TP1, 1 IP),
 -- 13 (room below 272), then the reader's."

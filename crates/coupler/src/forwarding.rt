@@ -5,7 +5,7 @@ ghost use Rattle.frame.specs.Order.{first_of};
 ghost use Rattle.frame.specs.Valid.{in_range};
 ghost use Rattle.coupler.specs.Memory.{is_repetition};
 ghost use Rattle.coupler.specs.Hearing.{answer_on, payload_on};
-ghost use Rattle.coupler.specs.Step.{coupler_by, setting_tests, from_ip, to_ip, read_by, kind_of, is_allowed, acknowledgement_by, forwarded_meaning, indication, form_of, refused_outcome};
+ghost use Rattle.coupler.specs.Step.{coupler_in, setting_tests, from_ip, to_ip, read_by, kind_of, is_allowed, acknowledgement_by, forwarded_meaning, indication, form_of, refused_outcome};
 ghost use Rattle.coupler.specs.Stages.{Sent, PassedOn, HandedBy};
 
 use crate::{Acknowledgement, Coupler, Outcome, Setting};
@@ -61,7 +61,8 @@ fn forwarded_meaning(setting: Setting, meaning: Meaning) -> Meaning
     }
 }
 
-// Lays the forwarded frame over the room, in the form of the medium that it goes out by.
+// Lays the forwarded frame over the room, in the form of the medium that it goes out by. IP or TP1 is asked here, of the reader and
+// of the payload: a type for the two media would have these three pairs as its methods, and no fewer.
 fn forward(ip: bool, setting: Setting, meaning: Meaning, payload: &[u8], room: &mut [u8]) -> usize
     requires { (in_range meaning (length payload.now) ≡ true) × (272 ≤ length room.old) }
     ensures { Sent (form_of ip setting meaning payload.now) room.old result room.new }
@@ -106,14 +107,14 @@ fn payload_of(ip: bool, meaning: Meaning, octets: &[u8]) -> &[u8]
 
 impl<'a> Coupler<'a> {
     fn to_ip(&self) -> bool
-        ensures { result ≡ to_ip (coupler_by self.now.setting self.now.codes self.now.table.now) }
+        ensures { result ≡ to_ip (coupler_in self.now) }
     {
         (self.setting.side == 1) & (self.setting.medium == 1)
     }
 
     // "On a refusal: its number, none, not, 0."
     pub(crate) fn refused(&self, octets: &[u8], refusal: Refusal) -> Outcome
-        ensures { result ≡ refused_outcome (coupler_by self.now.setting self.now.codes self.now.table.now) octets.now refusal }
+        ensures { result ≡ refused_outcome (coupler_in self.now) octets.now refusal }
     {
         Outcome {
             refusal: Some(refusal),
@@ -125,7 +126,7 @@ impl<'a> Coupler<'a> {
 
     // The refusals that stand before the reader's: 15, 18, 14, 13.
     pub(crate) fn judge(&self, room: usize) -> Result<(), Refusal>
-        ensures { result ≡ first_of (setting_tests (coupler_by self.now.setting self.now.codes self.now.table.now) room) }
+        ensures { result ≡ first_of (setting_tests (coupler_in self.now) room) }
     {
         if (self.setting.line == 0) | !passing::settings::are_codes(self.codes) {
             return Err(Refusal::WrongSetting);
@@ -144,7 +145,7 @@ impl<'a> Coupler<'a> {
 
     // Address, codes and count allow forwarding.
     fn is_allowed(&self, meaning: Meaning) -> bool
-        ensures { result ≡ is_allowed (coupler_by self.now.setting self.now.codes self.now.table.now) meaning }
+        ensures { result ≡ is_allowed (coupler_in self.now) meaning }
     {
         let filter = Filter {
             line: self.setting.line,
@@ -163,7 +164,7 @@ impl<'a> Coupler<'a> {
         room: &mut [u8],
     ) -> Outcome
         requires { (in_range meaning (length payload.now) ≡ true) × (272 ≤ length room.old) }
-        ensures { PassedOn (coupler_by self.now.setting self.now.codes self.now.table.now) repetition meaning payload.now room.old result room.new }
+        ensures { PassedOn (coupler_in self.now) repetition meaning payload.now room.old result room.new }
     {
         let own = passing::is_own(self.setting.line, address_of(meaning));
         let allowed = self.is_allowed(meaning);
@@ -184,7 +185,7 @@ impl<'a> Coupler<'a> {
 
     pub(crate) fn receive(&self, remembered: &[u8], octets: &[u8], room: &mut [u8]) -> Outcome
         requires { 272 ≤ length room.old }
-        ensures { HandedBy (coupler_by self.now.setting self.now.codes self.now.table.now) remembered.now octets.now (read_by (from_ip (coupler_by self.now.setting self.now.codes self.now.table.now)) octets.now) room.old result room.new }
+        ensures { HandedBy (coupler_in self.now) remembered.now octets.now (read_by (from_ip (coupler_in self.now)) octets.now) room.old result room.new }
     {
         let ip = self.from_ip();
         match hear(ip, octets) {

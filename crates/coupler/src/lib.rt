@@ -8,7 +8,7 @@ mod repeating;
 ghost use Rattle.std.specs.Prelude.{◌≡◌};
 ghost use Rattle.coupler.specs.Setting.{setting_of, hopped_by};
 ghost use Rattle.coupler.specs.Memory.{no_memory, is_repetition};
-ghost use Rattle.coupler.specs.Step.{coupler_by, from_ip, HandedOn, Did};
+ghost use Rattle.coupler.specs.Step.{coupler_in, from_ip, HandedOn, Did};
 
 use frame::Refusal;
 
@@ -29,7 +29,7 @@ pub struct Coupler<'a> {
     pub table: &'a [u8],
 }
 
-// "CCh", or "no acknowledgement".
+// "CCh", or "no acknowledgement": the two by name, and no Option, for the one has no value but CCh.
 #[derive(Clone, Copy, PartialEq, Eq, Debug)]
 pub enum Acknowledgement {
     Silence,
@@ -101,14 +101,14 @@ pub fn nothing_remembered() -> Memory
 impl<'a> Coupler<'a> {
     // "The main side is TP1 or IP; the sub side is TP1."
     pub fn from_ip(&self) -> bool
-        ensures { result ≡ from_ip (coupler_by self.now.setting self.now.codes self.now.table.now) }
+        ensures { result ≡ from_ip (coupler_in self.now) }
     {
         (self.setting.side == 0) & (self.setting.medium == 1)
     }
 
     // One frame handed on or not: all that a step decides, with the frame that its side remembers (no octets: none).
     pub fn hand_on(&self, remembered: &[u8], octets: &[u8], room: &mut [u8]) -> Outcome
-        ensures { HandedOn (coupler_by self.now.setting self.now.codes self.now.table.now) remembered.now octets.now room.old result room.new }
+        ensures { HandedOn (coupler_in self.now) remembered.now octets.now room.old result room.new }
     {
         match self.judge(room.len()) {
             Err(refusal) => self.refused(octets, refusal),
@@ -118,7 +118,7 @@ impl<'a> Coupler<'a> {
 
     // One step, its memory by value: the core that the step in place stands on (docs/DECISIONS.md).
     pub fn step(&self, memory: Memory, octets: &[u8], room: &mut [u8]) -> Stepped
-        ensures { Did (coupler_by self.now.setting self.now.codes self.now.table.now) memory octets.now room.old result.outcome result.memory room.new }
+        ensures { Did (coupler_in self.now) memory octets.now room.old result.outcome result.memory room.new }
     {
         let remembered = memory.side_of(self.setting.side).frame();
         let outcome = self.hand_on(remembered, octets, room);
@@ -130,7 +130,7 @@ impl<'a> Coupler<'a> {
 
     // The same step, lent the remembered frames and changing them in place.
     pub fn step_in_place(&self, memory: &mut Memory, octets: &[u8], room: &mut [u8]) -> Outcome
-        ensures { Did (coupler_by self.now.setting self.now.codes self.now.table.now) memory.old octets.now room.old result memory.new room.new }
+        ensures { Did (coupler_in self.now) memory.old octets.now room.old result memory.new room.new }
     {
         let stepped = self.step(*memory, octets, room);
         *memory = stepped.memory;

@@ -105,7 +105,8 @@ pub fn confirm_on(channel: Channel, octets: &[u8]) -> Result<Confirmed, Refusal>
     confirming::confirmed_behind(channel, octets)
 }
 
-// An acknowledgement arrives on the channel that it names.
+// An acknowledgement arrives on the channel that it names. Beside `receive`: the core, the answer and what it leaves in the channel
+// are others, and what is alike are three calls.
 pub fn confirm(table: &mut Table, octets: &[u8]) -> Result<Confirmed, Refusal>
     ensures { Called (confirming octets.now) table.old.channels result table.new.channels }
 {

@@ -34,8 +34,8 @@ fn of_meaning(meaning: Meaning, payload: usize) -> u64
         + length * 281474976710656
 }
 
-// Two arms, here and in each `of_` below: a generic function that is handed the first arm as a closure
-// would be no plainer, and each of these would stay, since wrong programs are named for them.
+// Two arms, here and in each `of_` below: a generic function that is handed the first arm as a closure would be no
+// plainer, for each of these would stay, with a call in place of its two arms.
 pub(crate) fn of_tp1(answer: Result<Meaning, Refusal>, payload: usize) -> u64
     ensures { result ≡ tp1_number answer payload }
 {
@@ -78,13 +78,7 @@ pub(crate) fn of_cemi(answer: Result<Message, Refusal>, payload: usize) -> u64
 pub(crate) fn message_answer(answer: Result<Request, Refusal>) -> Result<Message, Refusal>
     ensures { result ≡ message_answer answer }
 {
-    match answer {
-        Ok(request) => {
-            let message = request.message;
-            Ok(message)
-        }
-        Err(refusal) => Err(refusal),
-    }
+    answer.map(|request| request.message)
 }
 
 pub(crate) fn of_acknowledged(answer: Result<Acknowledgement, Refusal>) -> u32

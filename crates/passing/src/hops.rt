@@ -16,5 +16,5 @@ pub fn hopped_count(count: u8) -> u8
     if stays(count) {
         return 7;
     }
-    if count == 0 { 0 } else { count - 1 }
+    count.saturating_sub(1)
 }

@@ -13,7 +13,8 @@ ghost use Rattle.passing.specs.Passing.{may_pass, passage_of};
 pub use addresses::is_own;
 pub use hops::{hopped_count, stays};
 
-// What a coupler makes of a telegram: it lets it pass, or the first reason why not.
+// What a coupler makes of a telegram: it lets it pass, or the first reason why not. One list, and no Result of the reasons: the
+// surface numbers all eight, and the planner's text has a sentence for each.
 #[derive(Clone, Copy, PartialEq, Eq, Debug)]
 pub enum Passage {
     Passes,

@@ -6,7 +6,8 @@ ghost use Rattle.station.specs.Taking.{telegram_of, telegram_by, telegram_in, su
 
 use frame::{Meaning, Refusal};
 
-// What a frame is to the station: an increment of the total, or why it adds nothing.
+// What a frame is to the station: an increment of the total, or why it adds nothing. No Option of the increment: each reason is
+// told by its own name.
 #[derive(Clone, Copy, PartialEq, Eq, Debug)]
 pub enum Telegram {
     Increment(u16),

@@ -50,7 +50,8 @@ fn run_rows(out: &impl Print, rows: &[u8]) -> io::Result<()> {
     Ok(())
 }
 
-// Reads until the room is full or the input ends, and says how many octets the room then begins with.
+// Reads until the room is full or the input ends, and says how many octets the room then begins with. Trace has the same: a
+// library of one function for two programs is no plainer.
 // std has no call for it without heap: `read_exact` fails where the input ends, `read_to_end` fills a Vec.
 fn read_full(input: &mut impl Read, room: &mut [u8]) -> io::Result<usize>
     ensures { IfOk result (λ size. size ≤ length room.new) }

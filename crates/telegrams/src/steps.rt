@@ -2,18 +2,16 @@
 use crate::lists::{self, Items};
 use crate::text::OctetsText;
 use coupler::{Acknowledgement, Coupler, Outcome};
-use std::{array, fmt, io};
+use std::{fmt, io};
 
 // The setting has the coupler's line, four codes down, four codes up, the receiving side, and the main medium.
 fn coupler_of<'a>(setting: &[u8], table: &'a [u8]) -> Coupler<'a> {
-    let down = array::from_fn(|class| octets::octet(setting, 1 + class));
-    let up = array::from_fn(|class| octets::octet(setting, 5 + class));
     let line = octets::octet(setting, 0);
     let side = octets::octet(setting, 9);
     let medium = octets::octet(setting, 10);
     Coupler {
         setting: coupler::setting_of(line, side, medium),
-        codes: [down, up],
+        codes: passing::settings::codes_from(setting, 1),
         table,
     }
 }

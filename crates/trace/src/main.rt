@@ -7,7 +7,8 @@ ghost use Rattle.std.specs.Prelude.{◌≤◌, length, IfOk};
 use std::io;
 use std::io::Read;
 
-// Reads until the room is full or the input ends, and says how many octets the room then begins with.
+// Reads until the room is full or the input ends, and says how many octets the room then begins with. Telegrams has the same: a
+// library of one function for two programs is no plainer.
 // A loop: `read_exact` does not say how many a shorter input had, and `read_to_end` asks for a heap.
 fn read_full(input: &mut impl Read, room: &mut [u8]) -> io::Result<usize>
     ensures { IfOk result (λ size. size ≤ length room.new) }
