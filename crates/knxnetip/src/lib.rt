@@ -7,6 +7,7 @@ ghost use Rattle.knxnetip.specs.Header.{header_of, is_other_header, is_other_ser
 
 use frame::Refusal;
 
+#[tactic(auto, unfolding(crate::specs::Header::is_other_header))]
 fn is_other_header(octets: &[u8]) -> bool
     ensures { result ≡ is_other_header octets.now }
 {
@@ -14,12 +15,14 @@ fn is_other_header(octets: &[u8]) -> bool
     !right
 }
 
+#[tactic(auto, unfolding(crate::specs::Header::is_other_service))]
 fn is_other_service(octets: &[u8], service: u16) -> bool
     ensures { result ≡ is_other_service service octets.now }
 {
     octets::word_at(octets, 2) != service
 }
 
+#[tactic(auto, unfolding(crate::specs::Header::is_other_length))]
 fn is_other_length(octets: &[u8]) -> bool
     ensures { result ≡ is_other_length octets.now }
 {
@@ -28,6 +31,7 @@ fn is_other_length(octets: &[u8]) -> bool
 }
 
 // The header of a datagram, told which service is wanted: a number, and no enum, for the contract is of every service.
+#[tactic(auto, unfolding(crate::specs::Header::read_header))]
 pub fn read_header(octets: &[u8], service: u16) -> Result<(), Refusal>
     ensures { result ≡ read_header service octets.now }
 {
