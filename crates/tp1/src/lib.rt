@@ -14,6 +14,7 @@ ghost use Rattle.tp1.specs.Reading.{meaning_in, read_tp1, payload_at, payload_in
 use frame::{Meaning, Refusal};
 
 // What the octets mean as a frame, or the first refusal of document 01's order.
+#[tactic(auto, unfolding(crate::specs::Reading::read_tp1, crate::specs::Stages::read_from))]
 pub fn read(octets: &[u8]) -> Result<Meaning, Refusal>
     ensures { result ≡ read_tp1 octets.now }
 {

@@ -7,6 +7,7 @@ ghost use Rattle.tp1.specs.Stages.{read_from};
 
 use frame::{Meaning, Refusal};
 
+#[tactic(auto, unfolding(frame::specs::Fields::is_control))]
 pub(crate) fn is_control(control: u8) -> bool
     ensures { result ≡ is_control control }
 {
@@ -20,12 +21,14 @@ pub(crate) fn head_of(extended: bool) -> usize
     if extended { 7 } else { 6 }
 }
 
+#[tactic(auto, unfolding(crate::specs::Reading::is_extended))]
 fn is_extended(octets: &[u8]) -> bool
     ensures { result ≡ is_extended octets.now }
 {
     octets::octet(octets, 0) < 128
 }
 
+#[tactic(auto, unfolding(crate::specs::Reading::is_other_format))]
 fn is_other_format(octets: &[u8]) -> bool
     ensures { result ≡ is_other_format octets.now }
 {
@@ -36,6 +39,7 @@ fn is_other_format(octets: &[u8]) -> bool
     }
 }
 
+#[tactic(auto, unfolding(crate::specs::Reading::is_escape))]
 fn is_escape(octets: &[u8]) -> bool
     ensures { result ≡ is_escape octets.now }
 {
@@ -44,6 +48,7 @@ fn is_escape(octets: &[u8]) -> bool
 }
 
 // 8 + LG or 9 + LG.
+#[tactic(auto, unfolding(crate::specs::Reading::frame_size))]
 fn frame_size(octets: &[u8]) -> usize
     ensures { result ≡ frame_size octets.now }
 {
@@ -54,6 +59,7 @@ fn frame_size(octets: &[u8]) -> usize
     }
 }
 
+#[tactic(auto, unfolding(crate::specs::Reading::is_checked))]
 fn is_checked(octets: &[u8]) -> bool
     requires { 1 ≤ length octets.now }
     ensures { result ≡ is_checked octets.now }
@@ -100,6 +106,7 @@ fn read_end(octets: &[u8]) -> Result<Meaning, Refusal>
 }
 
 // From the third test of the order on.
+#[tactic(auto, unfolding(crate::specs::Stages::read_from, crate::specs::Reading::head_size))]
 pub(crate) fn read_head(octets: &[u8]) -> Result<Meaning, Refusal>
     ensures { result ≡ read_from 2 octets.now }
 {

@@ -41,6 +41,7 @@ fn put_extended_head(meaning: Meaning, lg: u8, room: &mut [u8]) -> u8
     head[0] ^ head[1] ^ head[2] ^ head[3] ^ head[4] ^ head[5] ^ head[6]
 }
 
+#[tactic(auto, unfolding(crate::specs::Layout::head))]
 fn put_head(meaning: Meaning, lg: u8, room: &mut [u8]) -> u8
     ensures { (room.new ≡ laid (head meaning lg) 0 room.old) × (result ≡ xor_from 0 (head meaning lg)) }
 {
