@@ -1,13 +1,13 @@
 -- The records of a site, one at a time: what is left from an index on is the record there and what is left behind it.
 use Prim.Native.Nat.{ℕ, zero, suc, ◌+◌, ◌≤◌, ◌<◌}
 use mathlib.Core.Bool.{Bool, true, false, cond}
-use mathlib.Core.List.{List, [], ◌∷◌}
-use mathlib.Core.Path.{◌≡◌, refl, ap, ◌∙◌}
+use mathlib.Core.List.{List, [], ◌∷◌, ◌++◌}
+use mathlib.Core.Path.{◌≡◌, refl, sym, ap, ◌∙◌}
 use native.Mathlib.Omega.{arith}
 use lib.Dec.{leb, eqb}
-use lib.ListN.{length, take, drop, length-drop, drop_of_length-le}
-use lib.Seq.{drop-drop, length-take-le}
-use borrow.Author.Tests.{leb-true, leb-false, eqb-true, eqb-false}
+use lib.ListN.{length, take, drop, length-append, length-drop, drop_of_length-le}
+use lib.Seq.{drop-drop, length-take-le, take-append_seam, drop-append_seam}
+use borrow.Author.Tests.{le-leb, lt-leb, leb-true, leb-false, eqb-true, eqb-false}
 use Rattle.octets.proofs.Octets.{octets-take, octets-drop}
 use Rattle.octets.specs.Octets.{Octets}
 use Rattle.site.specs.Records.{record_size, first_record, records_by, records_of, line_of, coupler_in, coupler_of}
@@ -72,26 +72,39 @@ whole-or-none {P} site from f g = pick (leb n (length s)) refl
 record-whole : (site : List ℕ) (from : ℕ) → 0 < length (record_from site from) → (length (record_from site from) ≡ record_size (drop from site)) × (from + record_size (drop from site) ≤ length site)
 record-whole site from h = whole-or-none site from (λ w m. (w, m)) (λ n m. absurd (omega (arith, h, ap length n)))
 
--- .. which the site has whole where the walk has tested that it has some octets
-module _ (site : List ℕ) (from : ℕ) {tested : List ℕ} (q : tested ≡ record_from site from) (h : 0 < length tested) {octets : List ℕ} (r : octets ≡ record_from site from) where
-  pub record-some : (0 < length octets) × (from + length octets ≤ length site)
-  record-some =
-      let w = record-whole site from (rw (← q) h) in
-      (omega (arith, h, ap length q, ap length r), omega (arith, w, ap length r))
+-- .. which the site has whole where it has some octets
+module _ (site : List ℕ) (from : ℕ) {octets : List ℕ} (r : octets ≡ record_from site from) (h : 0 < length octets) where
+  whole : (length (record_from site from) ≡ record_size (drop from site)) × (from + record_size (drop from site) ≤ length site)
+  whole = record-whole site from (rw (← r) h)
+
+  pub record-fits : from + length octets ≤ length site
+  record-fits = omega (arith, whole, ap length r)
 
   pub records-more : records_of (drop from site) ≡ octets ∷ records_of (drop (from + length octets) site)
-  records-more =
-      let w = record-whole site from (rw (← q) h) in
-      rw (r, w.0) (any-more site from (omega (arith, w, size-some (drop from site))))
-
-pub record-most : (site : List ℕ) (from : ℕ) {octets : List ℕ} → octets ≡ record_from site from → length octets ≤ 12
-record-most site from r = whole-or-none site from (λ w m. omega (arith, ap length r, w, size-some (drop from site))) (λ n m. omega (arith, ap length (r ∙ n)))
+  records-more = rw (r, whole.0) (any-more site from (omega (arith, whole, size-some (drop from site))))
 
 -- .. or no octets, and it is the last
 pub records-cut : (site : List ℕ) (from : ℕ) {tested : List ℕ} → tested ≡ record_from site from → length tested ≡ 0 → from < length site → records_of (drop from site) ≡ [] ∷ []
 records-cut site from q z h = whole-or-none site from
     (λ w m. absurd (omega (arith, ap length q, w, z, size-some (drop from site))))
     (λ n m. any-more site from h ∙ rw (n, records-end site (from + record_size (drop from site)) (omega (arith, m))) refl)
+
+-- the next twelve octets are the record that stands there ..
+pub record-next : (site : List ℕ) (from : ℕ) (octets behind : List ℕ) → drop from site ≡ octets ++ behind → length octets ≡ 12 → octets ≡ record_from site from
+unfolding record_from first_record record_size
+record-next site from octets behind e h =
+    let next : take 12 (octets ++ behind) ≡ octets = rw h at (take-append_seam octets behind) in
+    rw (e, le-leb 12 (length (octets ++ behind)) (omega (arith, h, length-append octets behind))) (sym next)
+
+pub record-behind : (site : List ℕ) (from : ℕ) (octets behind : List ℕ) → drop from site ≡ octets ++ behind → length octets ≡ 12 → behind ≡ drop (from + 12) site
+record-behind site from octets behind e h =
+    let rest : drop 12 (octets ++ behind) ≡ behind = rw h at (drop-append_seam octets behind) in
+    sym (sym (drop-drop 12 from site) ∙ ap (drop 12) e ∙ rest)
+
+-- .. and fewer are none
+pub record-none : (site : List ℕ) (from : ℕ) → length (drop from site) < 12 → length (record_from site from) ≡ 0
+unfolding record_from first_record record_size
+record-none site from h = rw (lt-leb 12 (length (drop from site)) h) refl
 
 -- where the site's octets are octets, so are those of a record and of a coupler's
 pub first-octets : (s : List ℕ) → Octets s → Octets (first_record s)

@@ -12,7 +12,7 @@ use Rattle.frame.specs.declared.Refusal.{Refusal}
 use Rattle.octets.specs.Octets.{Octets}
 use Rattle.site.proofs.LettingLaws.{two-marks}
 use Rattle.site.proofs.RecordCount.{site-most}
-use Rattle.site.proofs.RecordLaws.{records-end, record-some, records-more, records-cut, by_equal}
+use Rattle.site.proofs.RecordLaws.{records-end, record-fits, records-more, records-cut, by_equal}
 use Rattle.site.specs.Letting.{lets_pass, line_lets_pass, line_lets_pass_by, MarksBothWays, passage_by, passage_at}
 use Rattle.site.specs.Records.{record_size, first_record, records_of, line_of, coupler_in, coupler_of}
 use Rattle.site.specs.Starts.{record_from, no_start, start_in, start_of, verdict_of, DidSurvey, coupler_from, Noted}
@@ -41,8 +41,8 @@ module _ (site : List ℕ) (line : ℕ) where
   found-by (suc k) from found h = by_equal (length r) 0 none
       (λ e.
       let some : 0 < length r = omega (arith, e) in
-      let fits = (record-some site from refl some refl).1 in
-      rw (records-more site from refl some refl) (found-by k (from + length r) (cond here from found) (omega (arith, some, fits))
+      let fits = record-fits site from refl some in
+      rw (records-more site from refl some) (found-by k (from + length r) (cond here from found) (omega (arith, some, fits))
       ∙ ap (λ (x : List ℕ). coupler_in line x (records_of (drop (from + length r) site))) (of-chosen here from found)))
     where
       r : List ℕ

@@ -16,9 +16,9 @@ use Rattle.frame.specs.Order.{Test, first_of}
 use Rattle.frame.specs.declared.Refusal.TheVariants.{WrongRecord}
 use Rattle.frame.specs.declared.Refusal.{Refusal}
 use Rattle.site.proofs.RecordCount.{Counted, counted_none, counted-more, counted-most}
-use Rattle.site.proofs.RecordLaws.{records-end, record-most, records-more, records-cut, by_equal}
+use Rattle.site.proofs.RecordLaws.{records-end, records-more, records-cut, record-next, record-none, by_equal}
 use Rattle.site.specs.Records.{records_of, is_marked, line_of}
-use Rattle.site.specs.Starts.{record_from, no_start, start_in, start_of, verdict_of, Starts, DidSurveyBy}
+use Rattle.site.specs.Starts.{no_start, start_in, start_of, verdict_of, Starts, DidSurveyBy}
 use Rattle.site.specs.Stores.{Stores}
 use Rattle.site.specs.declared.stores.Stores.{Stores as LentStores}
 use Rattle.std.specs.Borrow.{Bor}
@@ -61,8 +61,8 @@ module _ {starts : List ℕ} {from : ℕ} (w : Apart starts from) (st : Stores) 
   by_lines = j ∙ ap (λ (t : Bool). first_of (record_tests st t octets)) (w.seen line b ∙ ap (λ (n : ℕ). is_among n w.lines) l)
 
   -- whatever start is noted
-  pub apart_more : judged ≡ Ok tt → length octets ≤ 12 → (start : ℕ) → (start ≡ no_start → ⊥) → Apart (set starts line start) (from + length octets)
-  apart_more f h start some =
+  pub apart_more : judged ≡ Ok tt → (start : ℕ) → (start ≡ no_start → ⊥) → Apart (set starts line start) (from + 12)
+  apart_more f start some =
       let none = (passed-iff (tests_behind st w.lines octets)).0 (sym by_lines ∙ f) in
       record {
         lines = line_of octets ∷ w.lines;
@@ -105,44 +105,44 @@ module _ {given : LentStores} {octets : Bor (List ℕ)} {records : List (List �
   records-decide e w = record { judged = w.judged ∙ sym e; found = w.found }
 
 -- octets are left over
-pub surveying-cut : {st : Stores} {site starts : List ℕ} {from : ℕ} → Surveying st site starts from → {tested : List ℕ} → tested ≡ record_from site from → length tested ≡ 0 → from < length site
+pub surveying-cut : {st : Stores} {site starts : List ℕ} {from : ℕ} → Surveying st site starts from → length (drop from site) < 12 → from < length site
     → first_of (records_tests st [] (records_of site)) ≡ Err WrongRecord
 unfolding is_marked
-surveying-cut {st} {site} {from = from} w q z h =
-    w.left ∙ ap (λ (rs : List (List ℕ)). first_of (records_tests st w.apart.lines rs)) (records-cut site from q z h)
+surveying-cut {st} {site} {from = from} w fewer h =
+    w.left ∙ ap (λ (rs : List (List ℕ)). first_of (records_tests st w.apart.lines rs)) (records-cut site from refl (record-none site from fewer) h)
 
 module _ {st : Stores} {site starts : List ℕ} {from : ℕ} (w : Surveying st site starts from)
-    {tested : List ℕ} (q : tested ≡ record_from site from) (h : 0 < length tested)
-    {octets : List ℕ} (r : octets ≡ record_from site from) {line : ℕ} (l : line ≡ line_of octets) (b : line < 256)
+    (octets behind : List ℕ) (e : drop from site ≡ octets ++ behind) (h : length octets ≡ 12) {line : ℕ} (l : line ≡ line_of octets) (b : line < 256)
     {judged : Result (Unit {0}) Refusal} (j : judged ≡ first_of (record_tests st (not (eqb (get_or starts line 0) no_start)) octets)) where
   abbrev here : List Test
   here = tests_behind st w.apart.lines octets
 
   abbrev rest : List (List ℕ)
-  rest = records_of (drop (from + length octets) site)
+  rest = records_of (drop (from + 12) site)
 
-  abbrev behind : List Test
-  behind = records_tests st (line_of octets ∷ w.apart.lines) rest
+  abbrev later : List Test
+  later = records_tests st (line_of octets ∷ w.apart.lines) rest
 
   split : records_of (drop from site) ≡ octets ∷ rest
-  split = records-more site from q h r
+  split = rw h at (records-more site from (record-next site from octets behind e h) (omega (arith, h)))
 
-  unrolled : first_of (records_tests st [] (records_of site)) ≡ first_of (here ++ behind)
+  unrolled : first_of (records_tests st [] (records_of site)) ≡ first_of (here ++ later)
   unrolled = w.left ∙ ap (λ (rs : List (List ℕ)). first_of (records_tests st w.apart.lines rs)) split
 
   pub surveying-refused : (refusal : Refusal) → judged ≡ Err refusal → first_of (records_tests st [] (records_of site)) ≡ Err refusal
-  surveying-refused refusal f = unrolled ∙ first-refused here behind refusal (sym (by_lines w.apart st octets l b j) ∙ f)
+  surveying-refused refusal f = unrolled ∙ first-refused here later refusal (sym (by_lines w.apart st octets l b j) ∙ f)
 
-  pub surveying-more : judged ≡ Ok tt → Surveying st site (set starts line from) (from + length octets)
+  pub surveying-more : judged ≡ Ok tt → Surveying st site (set starts line from) (from + 12)
   unfolding apart_more
   surveying-more f = record {
-    apart = apart_more w.apart st octets l b j f (record-most site from r) from (λ e. omega (arith, apart-few w.apart, e));
+    apart = apart_more w.apart st octets l b j f from (λ e. omega (arith, apart-few w.apart, e));
     noted = λ n hn.
         let noted : cond (eqb (line_of octets) n) from (get_or starts n 0) ≡ get_or (set starts line from) n 0 = by_equal line n
         (λ e. rw (← l, eq-eqb line n e, ← e, get_or-set_same starts line from 0 (omega (arith, w.apart.size))) refl)
         (λ e. rw (← l, ne_eqb line n e, get_or-set_other starts line n from 0 (λ y. e (sym y))) refl) in
-        w.noted n hn ∙ ap (start_in n from (get_or starts n 0)) split ∙ ap (λ (found : ℕ). start_in n (from + length octets) found rest) noted;
-    left = unrolled ∙ first-passed here behind (sym (by_lines w.apart st octets l b j) ∙ f);
+        w.noted n hn ∙ ap (start_in n from (get_or starts n 0)) split
+        ∙ ap (λ (size : ℕ). start_in n (from + size) (cond (eqb (line_of octets) n) from (get_or starts n 0)) rest) h ∙ ap (λ (found : ℕ). start_in n (from + 12) found rest) noted;
+    left = unrolled ∙ first-passed here later (sym (by_lines w.apart st octets l b j) ∙ f);
   }
 
 -- what a survey answers is determined

@@ -68,20 +68,18 @@ fn refused<'a>(refusal: Refusal) -> Result<Surveyed<'a>, Refusal>
 }
 
 // "then record by record: 16, 15 (line, codes), 18, 17 (at the second)": a line was seen before if its
-// start is noted. Octets that are left over are no whole record. Not by `chunks_exact(12)`: the walk goes by each
-// record's own size (`record_size`, `records_by`), which the start noted for its line counts.
+// start is noted. Octets that are left over are no whole record.
 fn survey_records<'a>(records: &'a [u8], stores: Stores<'a>) -> Result<Surveyed<'a>, Refusal>
     ensures { DidSurveyBy (records_tests (stores_in stores.entry) [] (records_of records.now)) stores.entry records.entry (records_of records.now) result }
 {
     let mut starts = [0xffff; 256];
     let mut from: u16 = 0;
-    while records::record_from(records, from).len() > 0 {
-        let octets = records::record_from(records, from);
+    for octets in records.chunks_exact(12) {
         let line = usize::from(records::line_of(octets));
         let twice = starts[line] != 0xffff;
         judge_record(octets, stores, twice)?;
         starts[line] = from;
-        from += octets.len() as u16;
+        from += 12;
     }
     if usize::from(from) < records.len() {
         return Err(Refusal::WrongRecord);
