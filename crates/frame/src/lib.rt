@@ -88,6 +88,7 @@ pub fn meaning_of(control: u8, ctrle: u8, source: u16, destination: u16) -> Mean
 }
 
 // The meaning of octets that begin as an extended frame does, and as cEMI does from Ctrl1 on.
+#[tactic(auto, unfolding(crate::specs::Fields::fields_meaning))]
 pub fn fields_meaning(octets: &[u8]) -> Meaning
     ensures { result ≡ fields_meaning octets.now }
 {
@@ -102,6 +103,7 @@ pub fn fields_meaning(octets: &[u8]) -> Meaning
 }
 
 // Whether priority, hop count and the payload's length are ones that the format has.
+#[tactic(auto, unfolding(crate::specs::Valid::in_range))]
 pub fn in_range(meaning: Meaning, payload: usize) -> bool
     ensures { result ≡ in_range meaning payload }
 {
