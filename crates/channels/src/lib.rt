@@ -8,6 +8,7 @@ ghost use Rattle.channels.specs.Table.{many, closed, fresh, all_closed, channel_
 pub const CHANNELS: usize = 4;
 
 // A channel that was never open has counters 0.
+// `opened` beside the counters, and no Option of them: a closed channel keeps its own (the block for C has them too).
 #[derive(Clone, Copy, PartialEq, Eq, Debug)]
 pub struct Channel {
     pub opened: bool,

@@ -63,6 +63,7 @@ fn forwarded_meaning(setting: Setting, meaning: Meaning) -> Meaning
 
 // Lays the forwarded frame over the room, in the form of the medium that it goes out by. IP or TP1 is asked here, of the reader and
 // of the payload: a type for the two media would have these three pairs as its methods, and no fewer.
+// A room of 272 is asked for in three clauses: it is a lent slice, and a type of it would be built and proved where it is lent.
 fn forward(ip: bool, setting: Setting, meaning: Meaning, payload: &[u8], room: &mut [u8]) -> usize
     requires { (in_range meaning (length payload.now) ≡ true) × (272 ≤ length room.old) }
     ensures { Sent (form_of ip setting meaning payload.now) room.old result room.new }

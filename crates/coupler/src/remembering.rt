@@ -35,6 +35,7 @@ impl Remembered {
 }
 
 impl Memory {
+    // The side is the Setting's number.
     pub(crate) fn side_of(&self, side: u8) -> &Remembered
         ensures { result.now ≡ side_of self.now side }
     {

@@ -35,6 +35,7 @@ pub(crate) fn confirmed_behind(channel: Channel, octets: &[u8]) -> Result<Confir
     }
 }
 
+// Beside `channel_after` of receiving: another answer, another counter.
 pub(crate) fn channel_confirmed(answer: Result<Confirmed, Refusal>, channel: Channel) -> Channel
     ensures { result ≡ channel_confirmed answer channel }
 {

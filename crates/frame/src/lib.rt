@@ -8,6 +8,7 @@ ghost use Rattle.frame.specs.Valid.{in_range};
 
 // "A frame's meaning: format, repeat flag, priority, source, AT, destination, hop count, payload".
 // The payload is handed out beside it, as a part of the caller's octets.
+// The priority is a number, and no enum: a writer refuses one above 3 by 14 (`in_range`).
 #[derive(Clone, Copy, PartialEq, Eq, Debug)]
 pub struct Meaning {
     pub extended: bool,

@@ -32,6 +32,7 @@ pub(crate) fn codes_in(settings: &[u8]) -> [[u8; 4]; 2]
 }
 
 // A side in so many bits that the step inside takes; every number that is none is 2.
+// A number, as the C interface has it.
 pub(crate) fn side_of(side: u32) -> u8
     ensures { result ≡ side_or_none side }
 {
@@ -74,6 +75,7 @@ pub(crate) fn remember_if(accepted: bool, block: &mut [u8], start: usize, frame:
     }
 }
 
+// The numbers of include/klumdray.h.
 fn of_acknowledgement(acknowledgement: Acknowledgement) -> u8
     ensures { result ≡ acknowledgement_number acknowledgement }
 {

@@ -29,6 +29,7 @@ pub(crate) fn number_of(channel: u32) -> u8
     u8::try_from(channel).unwrap_or(0)
 }
 
+// The place is one of the three octets that the C interface has of a channel: open, receive counter, send counter.
 fn octet_in(block: &[u8], number: u8, place: u8) -> u8
     ensures { result ≡ octet_in block.now number place }
 {
@@ -50,6 +51,7 @@ pub(crate) fn channel_in(block: &[u8], number: u8) -> Channel
 }
 
 // Puts an octet into a channel's three.
+// Beside `octet_in`: the one reads, the other writes.
 fn put(block: &mut [u8], number: u8, place: u8, octet: u8)
     ensures { block.new ≡ with_octet block.old number place octet }
 {
@@ -62,6 +64,7 @@ fn put(block: &mut [u8], number: u8, place: u8, octet: u8)
     }
 }
 
+// Beside `raise_confirmed`: another answer, another place.
 pub(crate) fn raise_received(
     answer: Result<Received, Refusal>,
     channel: Channel,

@@ -127,6 +127,7 @@ pub(crate) fn are_connected(channel: u32, counter: u32, status: u32) -> bool
 }
 
 // What a caller's numbers of a frame give, if each is in its range. The casts lose nothing: the tests stand before them.
+// They are parameters as the C interface has them, and go no further than this.
 pub(crate) fn meaning_given(
     extended: u32,
     first: u32,
@@ -156,6 +157,7 @@ pub(crate) fn meaning_given(
     }
 }
 
+// Behind `are_marks`, which wrong programs are named for.
 fn message_from(code: u32, error: u32, meaning: Meaning) -> Message
     requires { are_marks code error ≡ true }
     ensures { result ≡ message_from code error meaning }
@@ -207,6 +209,7 @@ pub(crate) fn write_request(
     tunnelling::write_request(number, counted, message, payload, room)
 }
 
+// Behind `are_connected`, which wrong programs are named for, and no Option of its own.
 pub(crate) fn acknowledgement_from(channel: u32, counter: u32, status: u32) -> Acknowledgement
     requires { are_connected channel counter status ≡ true }
     ensures { result ≡ acknowledgement_from channel counter status }

@@ -17,6 +17,7 @@ use text::Writer;
 use tracer::Query;
 
 // "On refusal it writes `refused N`."
+// A room of 8,192 is asked for in four clauses: it is a lent slice, and a type of it would be built and proved where it is lent.
 fn put_refused(refusal: Refusal, room: &mut [u8]) -> usize
     requires { 8192 ≤ length room.old }
     ensures { Puts (told_line (ascii "refused ") (number refusal)) 0 room.old result room.new }

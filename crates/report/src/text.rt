@@ -27,6 +27,7 @@ impl<'a> Writer<'a> {
         self.at += text.len();
     }
 
+    // By hand: `write!` goes through a text of the kit's, with an error of its own, and this has to stand in the lent room.
     fn put_digit(&mut self, number: usize)
         requires { HasPlace self.old (digit (number % 10)) }
         ensures { Wrote self.old (digit (number % 10)) self.new }

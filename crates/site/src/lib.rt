@@ -141,6 +141,7 @@ fn lets_pass<'a>(octets: &[u8], stores: Stores<'a>, address: Address) -> [bool; 
 impl<'a> Surveyed<'a> {
     // For every line whether its coupler is fitted and lets the telegram pass, main to sub and sub to main:
     // each record is read once, for both directions.
+    // By the line's number: an iterator's Option<&..> is misread on the 32-bit boards (tools/library-for).
     pub fn letting(&self, address: Address) -> [[bool; 2]; 256]
         ensures { MarksBothWays (line_lets_pass_by (stores_in self.now.stores) address.kind address.destination self.now.records.now self.now.starts) result }
     {

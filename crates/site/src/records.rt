@@ -4,6 +4,7 @@ ghost use Rattle.site.specs.Records.{is_marked, line_of, codes_of, table_number}
 ghost use Rattle.site.specs.Starts.{record_from};
 
 // The record that starts at an index; empty where the site does not have it whole.
+// An empty part where there is none, as in tp1.
 pub(crate) fn record_from(site: &[u8], start: u16) -> &[u8]
     ensures { result.now ≡ record_from site.now start }
 {

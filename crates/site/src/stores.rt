@@ -32,6 +32,7 @@ impl<'a> Stores<'a> {
     }
 }
 
+// An empty part where there is none, as in tp1.
 fn table_at<'a>(place: u8, store: &'a [u8]) -> &'a [u8]
     ensures { PartAt store.entry result (start_at place store.now) (table_at place store.now) }
 {

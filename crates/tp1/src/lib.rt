@@ -29,6 +29,7 @@ pub fn read(octets: &[u8]) -> Result<Meaning, Refusal>
 
 // "The payload is handed out as the very octets received, not copied": TPCI onward, as a part of the
 // octets that were read with this answer; empty with a refusal.
+// An empty part where there is none, and no `get(..).unwrap_or(..)`: it has to lie in the caller's octets (`PartAt`).
 pub fn payload(answer: Result<Meaning, Refusal>, octets: &[u8]) -> &[u8]
     ensures { PartAt octets.entry result (payload_at answer octets.now) (payload_in answer octets.now) }
 {
@@ -45,6 +46,7 @@ pub fn payload(answer: Result<Meaning, Refusal>, octets: &[u8]) -> &[u8]
 }
 
 // What octets mean as a frame, as they stand: asked of a frame that was accepted before.
+// The readers' own, handed out.
 pub fn meaning_in(octets: &[u8]) -> Meaning
     ensures { result ≡ meaning_in octets.now }
 {
@@ -52,6 +54,7 @@ pub fn meaning_in(octets: &[u8]) -> Meaning
 }
 
 // Writes the frame at the front of the room, or refuses by 14, then 13.
+// The two tests of a writer stand in each (their law is one: frame Writing): what is put behind them is another call.
 pub fn write(meaning: Meaning, payload: &[u8], room: &mut [u8]) -> Result<usize, Refusal>
     ensures { Wrote (in_range meaning (length payload.now)) (tp1_octets meaning payload.now) room.old result room.new }
 {

@@ -9,6 +9,7 @@ use frame::Meaning;
 
 // Lays the head, and returns the exclusive or of its octets: the check octet is not read back from the room,
 // which a processor that has just written it by single octets has to wait for.
+// The six octets by name, and no fold over them: an iterator's Option<&u8> is misread on the 32-bit boards (tools/library-for).
 fn put_standard_head(meaning: Meaning, lg: u8, room: &mut [u8]) -> u8
     ensures { (room.new ≡ laid (standard_head meaning lg) 0 room.old) × (result ≡ xor_from 0 (standard_head meaning lg)) }
 {

@@ -21,6 +21,7 @@ use site::Stores;
 
 // What a planner asks: starting line, kind (0 individual, 1 group), destination, count. The kind is a number, and no enum:
 // another is refused by 14 (`asking_tests`).
+// Kind and destination are two of its four numbers, as document 01 has them.
 #[derive(Clone, Copy, PartialEq, Eq, Debug)]
 pub struct Query {
     pub start: u8,
@@ -37,6 +38,7 @@ pub struct Traced {
 }
 
 // For each line how many lines the telegram has been put on when it comes there, 0 where it does not come.
+// A number for none, since 256 options take twice the octets.
 #[derive(Clone, Copy)]
 pub struct Arrivals {
     pub lines: [u8; 256],

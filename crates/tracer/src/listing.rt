@@ -22,6 +22,7 @@ fn list_line(lines: &[u8; 256], query: Query, line: u8, listed: usize, room: &mu
     listed + 1
 }
 
+// By the line's number, as in `spread`.
 pub(crate) fn list(lines: &[u8; 256], query: Query, room: &mut [u8]) -> usize
     requires { 768 ≤ length room.old }
     ensures { (result ≡ count_below (is_reached lines.now) 256) × (room.new ≡ over (each_below (entry_by query lines.now) 256) room.old) }

@@ -41,6 +41,7 @@ fn reach_of(passing: &[[bool; 2]; 256], query: Query, lines: &[u8; 256], line: u
 }
 
 // Every line in rising order, so that a line's main side comes before it.
+// By the line's number: an iterator's Option<&..> is misread on the 32-bit boards (tools/library-for).
 pub(crate) fn spread(passing: &[[bool; 2]; 256], query: Query) -> Arrivals
     ensures { Spread (marked passing.now) query.start query.count result.lines result.forwardings }
 {

@@ -96,6 +96,7 @@ fn lay_head(service: u16, total: u16, channel: u8, counter: u8, status: u8, room
 }
 
 // Writes a request with the plain form of its message, or refuses by 14, then 13.
+// Channel, counter and message come from three places, so that a Request would be made for this call alone; the two tests as in tp1.
 pub fn write_request(
     channel: u8,
     counter: u8,
