@@ -5,7 +5,7 @@ use Prim.Native.Nat.{ℕ}
 use mathlib.Core.Bool.{true, false}
 use mathlib.Core.List.{List, [], ◌∷◌, ◌++◌, map}
 use mathlib.Core.Logic.{◌↔◌}
-use mathlib.Core.Path.{◌≡◌, refl, ap, ◌∙◌, subst}
+use mathlib.Core.Path.{◌≡◌, refl, sym, ap, ◌∙◌, subst}
 use lib.ListN.{length, take, drop, replicate, length-replicate}
 use borrow.Author.Tests.{eq-eqb, ne_eqb}
 use Rattle.coupler.proofs.Repetition.{Agrees}
@@ -13,6 +13,8 @@ use Rattle.coupler.specs.Memory.{zeros, no_memory}
 use Rattle.coupler.specs.Series.{Follows, last_accepted}
 use Rattle.coupler.specs.Step.{Coupler, from_ip, is_allowed, Did}
 use Rattle.coupler.specs.declared.Memory.{Memory}
+use Rattle.frame.proofs.Numbers.{refusal-back}
+use Rattle.frame.specs.Answers.{Numbered, refusal_number, refusal_in}
 use Rattle.frame.specs.declared.Meaning.{Meaning}
 use Rattle.frame.specs.declared.Refusal.TheVariants.{OutOfRange}
 use Rattle.klumdray.proofs.BlockLaws.{right-block}
@@ -32,6 +34,12 @@ use Rattle.promises.proofs.Surface.{remembered-read}
 module _ (settings : List ℕ) (k : Coupler) (block s room : List ℕ) (answer : ℕ) (block' room' : List ℕ) (octets : Octets s) (w : SteppedThrough (lent_right settings block) k block s room answer block' room') (right : lent_right settings block ≡ true) where
   pub step-is-inside : Did k (memory_in block) s room (outcome_in answer) (memory_in block') room'
   step-is-inside = step-inside (right-block settings block) octets w right
+
+  -- and the answer's number is the one of the refusal that is read back, so that no number which is no row's is read as a row's
+  pub step-number-is-inside : number_in answer ≡ refusal_number (outcome_in answer).refusal
+  step-number-is-inside =
+      let e = ap (λ (x : Numbered). x.number) (step-told octets w).decoded in
+      e ∙ sym (ap (λ (n : ℕ). refusal_number (refusal_in n)) e ∙ ap refusal_number (refusal-back _))
 
   -- what the header's helpers read in the answer, and before the step in the block, is related as R-2 says
   pub stopped-through-c : {x : Meaning} {p : List ℕ} → from_ip k ≡ false → Hears k s (length room) x p → is_allowed k x ≡ true
