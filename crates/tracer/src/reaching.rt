@@ -41,19 +41,22 @@ fn reach_of(passing: &[[bool; 2]; 256], query: Query, lines: &[u8; 256], line: u
 }
 
 // Every line in rising order, so that a line's main side comes before it.
-// By the line's number: an iterator's Option<&..> is misread on the 32-bit boards (tools/library-for).
+// By the line's number: an iterator's Option<&..> is misread on the 32-bit boards (tools/library-for). The answer is made where it is
+// handed out, so that its lines are not copied.
 pub(crate) fn spread(passing: &[[bool; 2]; 256], query: Query) -> Arrivals
     ensures { Spread (marked passing.now) query.start query.count result.lines result.forwardings }
 {
-    let mut lines = [0u8; 256];
-    let mut forwardings: usize = 0;
+    let mut arrivals = Arrivals {
+        lines: [0; 256],
+        forwardings: 0,
+    };
     for line in 0..256usize {
-        let reached = reach_of(passing, query, &lines, line as u8);
-        lines[line] = reached;
+        let reached = reach_of(passing, query, &arrivals.lines, line as u8);
+        arrivals.lines[line] = reached;
         // It came over a coupler: that one has forwarded it, once.
         if 1 < reached {
-            forwardings += 1;
+            arrivals.forwardings += 1;
         }
     }
-    Arrivals { lines, forwardings }
+    arrivals
 }

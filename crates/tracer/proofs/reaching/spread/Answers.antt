@@ -16,17 +16,18 @@ reach_of-reached-requires c =
     let at-loop = c.loop-line in
     omega (arith, at-loop.invariant.few (main_side at-loop.line))
 
-pub overflow_add-forwardings : goal.overflow_add-forwardings
-overflow_add-forwardings c = omega (arith, made-few c.loop-line.invariant)
+pub overflow_add-arrivals : goal.overflow_add-arrivals
+overflow_add-arrivals c = omega (arith, made-few c.loop-line.invariant)
 
 pub loop-line-preserved : goal.loop-line-preserved
 loop-line-preserved c =
-    let a = c.args in
-    spreading-more a.passing.now c.loop-line.invariant c.loop-line-test.true c.reach_of-reached.ensures
-    (elim c.if-reached-gt1.branch [
-      | then-reached-gt1 w ↦ rw (lt-ltb 1 _ w.if-reached-gt1.true) w.forwardings-is
-      | else-reached-gt1 w ↦ rw (le-ltb 1 _ w.if-reached-gt1.false) (omega (arith, w.forwardings-is))
-    ])
+    let walk = c.loop-line.invariant in
+    let below = c.loop-line-test.true in
+    let reached = c.reach_of-reached.ensures in
+    elim c.if-reached-gt1.branch [
+      | then-reached-gt1 w ↦ rw w.arrivals-is (spreading-more c.args.passing.now walk below reached (rw (lt-ltb 1 _ w.if-reached-gt1.true) refl))
+      | else-reached-gt1 w ↦ rw w.arrivals-is (spreading-more c.args.passing.now walk below reached (rw (le-ltb 1 _ w.if-reached-gt1.false) (omega arith)))
+    ]
 
 pub returns : goal.returns
 returns c = spreading-all c.loop-line.invariant c.loop-line-test.false

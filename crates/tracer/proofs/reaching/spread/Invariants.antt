@@ -5,4 +5,4 @@ use Rattle.tracer.proofs.reaching.spread.Given as goal
 
 abbrev pub invariant-loop-line : goal.invariant-loop-line
 invariant-loop-line l =
-    Spreading (marked l.passing) l.query.start l.query.count l.lines l.forwardings l.line
+    Spreading (marked l.passing) l.query.start l.query.count l.arrivals.lines l.arrivals.forwardings l.line
