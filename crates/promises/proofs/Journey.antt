@@ -1,6 +1,6 @@
 -- Demand 3, and what a planner really wants to know: the list is what the couplers do, whatever each of them remembers, the backbone being
 -- TP1 or IP. A first sending is put on the starting line of a well-formed site at work, and just that telegram is traced.
-use Rattle.std.specs.Prelude.{Result, Ok}
+use Rattle.std.specs.Prelude.{Result, Ok, Err}
 use Prim.Native.Nat.{ℕ, zero, suc, ◌≤◌, ◌<◌}
 use mathlib.Core.Bool.{Bool, true, false, ◌&&◌}
 use mathlib.Core.List.{List, [], ◌∷◌}
@@ -37,6 +37,11 @@ use Rattle.frame.specs.declared.Refusal.{Refusal}
 pub backbone-on-ip : (w : AtWork) → NoneOf (site_tests w.stores w.site) → is_ip w 0 ≡ w.meant_ip 0
 backbone-on-ip w ok = backbone-ip w ((passed-iff (site_tests w.stores w.site)).1 ok)
 
+-- what a trace answers; with a refusal no line and no forwarding
+abbrev pub traced_in : Result Traced Refusal → Traced
+traced_in (Ok t) = t
+traced_in (Err r) = record { lines = 0; forwardings = 0 }
+
 module _ (w : AtWork) (o : Octets w.site) (ok : NoneOf (site_tests w.stores w.site)) (start : ℕ) (small : start < 256) (m : Meaning) (p : List ℕ) (v : Valid m p) (new : m.first ≡ true)
     (room room' : List ℕ) (given : Result Traced Refusal) (large : 768 ≤ length room) (d : DidTrace w.stores w.site (asked_of w start m) room given room') where
   fine : first_of (site_tests w.stores w.site) ≡ Ok tt
@@ -52,19 +57,29 @@ module _ (w : AtWork) (o : Octets w.site) (ok : NoneOf (site_tests w.stores w.si
   passed : first_of (trace_tests w.stores w.site (asked_of w start m) (length room)) ≡ Ok tt
   passed = (passed-iff (trace_tests w.stores w.site (asked_of w start m) (length room))).1 (rw asks refl, (le-ltb (length room) 768 large, ok))
 
-  abbrev pub answer : Traced
-  answer = record { lines = lines_listed w.stores w.site (asked_of w start m); forwardings = forwardings w.stores w.site (asked_of w start m) }
+  asked : given ≡ traced_by w.stores w.site (asked_of w start m) (Ok tt)
+  asked = d.answered ∙ ap (traced_by w.stores w.site (asked_of w start m)) passed
 
-  -- the trace is not refused, and its answer is the one that the following speak of
+  -- the lines and forwardings of the call's answer
+  abbrev pub answer : Traced
+  answer = traced_in given
+
+  -- the trace is not refused
   pub answered : given ≡ Ok answer
-  answered = d.answered ∙ ap (traced_by w.stores w.site (asked_of w start m)) passed
+  answered = asked ∙ ap (λ (t : Result Traced Refusal). Ok (traced_in t)) (sym asked)
+
+  lines_are : answer.lines ≡ lines_listed w.stores w.site (asked_of w start m)
+  lines_are = ap (λ (t : Result Traced Refusal). (traced_in t).lines) asked
+
+  forwardings-are : answer.forwardings ≡ forwardings w.stores w.site (asked_of w start m)
+  forwardings-are = ap (λ (t : Result Traced Refusal). (traced_in t).forwardings) asked
 
   room-is : room' ≡ over (listed w.stores w.site (asked_of w start m)) room
   room-is = d.left ∙ ap (λ (x : Result (Unit {0}) Refusal). over (list_by w.stores w.site (asked_of w start m) x) room) passed
 
   -- what stands in the room is what is listed
   in-room : (line count crossed : ℕ) → StandsIn room' answer.lines line count crossed ↔ ((line < 256) × ListedWith w.stores w.site (asked_of w start m) line count crossed)
-  in-room line count crossed = rw room-is (stands-iff w.stores w.site (asked_of w start m) room line count crossed)
+  in-room line count crossed = rw (room-is, lines_are) (stands-iff w.stores w.site (asked_of w start m) room line count crossed)
 
   -- line, count on arrival and couplers crossed stand in the room exactly if the telegram, handed on by the step of coupler after coupler and
   -- never back over the one by which it came, arrives on that line with that count, so many couplers having been crossed
@@ -94,7 +109,7 @@ module _ (w : AtWork) (o : Octets w.site) (ok : NoneOf (site_tests w.stores w.si
 
   pub stands-in-one-place : (line : ℕ) {count₁ count₂ crossed₁ crossed₂ : ℕ} (a : StandsIn room' answer.lines line count₁ crossed₁) (b : StandsIn room' answer.lines line count₂ crossed₂)
       → a.place ≡ b.place
-  stands-in-one-place line = rw room-is (stands-once w.stores w.site (asked_of w start m) room line)
+  stands-in-one-place line = rw (room-is, lines_are) (stands-once w.stores w.site (asked_of w start m) room line)
 
   pub arrives-once : (line : ℕ) {octets₁ octets₂ : List ℕ} {way₁ way₂ : List Crossing} → Arrives w start (form_on w start m p) line octets₁ way₁ → Arrives w start (form_on w start m p) line octets₂ way₂
       → (octets₁ ≡ octets₂) × (way₁ ≡ way₂)
@@ -106,7 +121,7 @@ module _ (w : AtWork) (o : Octets w.site) (ok : NoneOf (site_tests w.stores w.si
   -- "the number of forwardings made on the site": so many sendings of the couplers there are, and no other number of them ..
   pub forwardings-are-sendings : (n : ℕ) → SoMany (Sends w start (form_on w start m p)) n ↔ (n ≡ answer.forwardings)
   forwardings-are-sendings n =
-      let s : SoMany (Sends w start (form_on w start m p)) answer.forwardings = (sends-so-many w fine start m p v new o) in
+      let s : SoMany (Sends w start (form_on w start m p)) answer.forwardings = rw forwardings-are (sends-so-many w fine start m p v new o) in
       ((λ x. so-many-one (Sends w start (form_on w start m p)) n answer.forwardings x s), λ e. subst (SoMany (Sends w start (form_on w start m p))) (sym e) s)
 
   -- .. each coupler sending once, if at all, in a direction ..
@@ -115,7 +130,7 @@ module _ (w : AtWork) (o : Octets w.site) (ok : NoneOf (site_tests w.stores w.si
 
   -- .. "which is the number of listed lines less one"
   pub forwardings-less-one : answer.lines ≡ suc answer.forwardings
-  forwardings-less-one = trace-and-one w.stores w.site (asked_of w start m) small
+  forwardings-less-one = lines_are ∙ trace-and-one w.stores w.site (asked_of w start m) small ∙ ap suc (sym forwardings-are)
 
 -- every query with kind and count in range is asked of such a telegram, on every site at work that is set for it
 pub record Telegram (q : Query) : Type 0 where
