@@ -24,7 +24,7 @@ use Rattle.coupler.specs.declared.Outcome.{Outcome}
 use Rattle.coupler.specs.declared.Remembered.{Remembered}
 use Rattle.frame.proofs.Valid.{ranges-of}
 use Rattle.frame.proofs.Numbers.{refusal-back}
-use Rattle.frame.specs.Answers.{Numbered, refusal_in}
+use Rattle.frame.specs.Answers.{Numbered, refusal_number, refusal_in}
 use Rattle.frame.specs.declared.Meaning.{Meaning}
 use Rattle.frame.specs.declared.Refusal.{Refusal}
 use Rattle.frame.specs.declared.Refusal.TheVariants.{OutOfRange}
@@ -210,12 +210,16 @@ module _ {right : Bool} {k : Coupler} {block s room : List ℕ} {answer : ℕ} {
     memory-read : memory_in block' ≡ memory_after k (memory_in block) s (heard k s (length room))
     memory-read = ap memory_in put ∙ block_read (memory_after k (memory_in block) s (heard k s (length room))) after-roomy
 
-    -- and answer and room are that step's
-    pub step-inside : Did k (memory_in block) s room (outcome_in answer) (memory_in block') room'
+    -- and answer and room are that step's; the answer's number is the one of the refusal that is read back, so that no number which is no row's is
+    -- read as a row's
+    pub step-inside : Did k (memory_in block) s room (outcome_in answer) (memory_in block') room' × (number_in answer ≡ refusal_number (outcome_in answer).refusal)
     unfolding heard_through
     step-inside =
         let o = outcome_of k (recalled (side_of (memory_in block) k.setting.side)) s (length room) in
-        record { handed = record { outcome = outcome-read o answer (rw a at (step-told os w).decoded); left = w.left ∙ rw a }; memory = memory-read }
+        let read = outcome-read o answer (rw a at (step-told os w).decoded) in (
+          record { handed = record { outcome = read; left = w.left ∙ rw a }; memory = memory-read },
+          ap (λ (x : Numbered). x.number) (step-told os w).decoded ∙ rw a (ap (λ (x : Outcome). refusal_number x.refusal) (sym read)),
+        )
 
   -- size and frame in the side's part, all else as it was
   pub step-remembers : Octets block → number_in answer ≡ 0 → from_ip k ≡ false

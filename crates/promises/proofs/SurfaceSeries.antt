@@ -5,7 +5,7 @@ use Prim.Native.Nat.{ℕ}
 use mathlib.Core.Bool.{true, false}
 use mathlib.Core.List.{List, [], ◌∷◌, ◌++◌, map}
 use mathlib.Core.Logic.{◌↔◌}
-use mathlib.Core.Path.{◌≡◌, refl, sym, ap, ◌∙◌, subst}
+use mathlib.Core.Path.{◌≡◌, refl, ap, ◌∙◌, subst}
 use lib.ListN.{length, take, drop, replicate, length-replicate}
 use borrow.Author.Tests.{eq-eqb, ne_eqb}
 use Rattle.coupler.proofs.Repetition.{Agrees}
@@ -13,8 +13,7 @@ use Rattle.coupler.specs.Memory.{zeros, no_memory}
 use Rattle.coupler.specs.Series.{Follows, last_accepted}
 use Rattle.coupler.specs.Step.{Coupler, from_ip, is_allowed, Did}
 use Rattle.coupler.specs.declared.Memory.{Memory}
-use Rattle.frame.proofs.Numbers.{refusal-back}
-use Rattle.frame.specs.Answers.{Numbered, refusal_number, refusal_in}
+use Rattle.frame.specs.Answers.{refusal_number}
 use Rattle.frame.specs.declared.Meaning.{Meaning}
 use Rattle.frame.specs.declared.Refusal.TheVariants.{OutOfRange}
 use Rattle.klumdray.proofs.BlockLaws.{right-block}
@@ -33,13 +32,11 @@ use Rattle.promises.proofs.Surface.{remembered-read}
 -- one call
 module _ (settings : List ℕ) (k : Coupler) (block s room : List ℕ) (answer : ℕ) (block' room' : List ℕ) (octets : Octets s) (w : SteppedThrough (lent_right settings block) k block s room answer block' room') (right : lent_right settings block ≡ true) where
   pub step-is-inside : Did k (memory_in block) s room (outcome_in answer) (memory_in block') room'
-  step-is-inside = step-inside (right-block settings block) octets w right
+  step-is-inside = (step-inside (right-block settings block) octets w right).0
 
   -- and the answer's number is the one of the refusal that is read back, so that no number which is no row's is read as a row's
   pub step-number-is-inside : number_in answer ≡ refusal_number (outcome_in answer).refusal
-  step-number-is-inside =
-      let e = ap (λ (x : Numbered). x.number) (step-told octets w).decoded in
-      e ∙ sym (ap (λ (n : ℕ). refusal_number (refusal_in n)) e ∙ ap refusal_number (refusal-back _))
+  step-number-is-inside = (step-inside (right-block settings block) octets w right).1
 
   -- what the header's helpers read in the answer, and before the step in the block, is related as R-2 says
   pub stopped-through-c : {x : Meaning} {p : List ℕ} → from_ip k ≡ false → Hears k s (length room) x p → is_allowed k x ≡ true
@@ -59,14 +56,22 @@ AllSet (c ∷ cs) = IsSet c × AllSet cs
 lent-right : (block : List ℕ) (c : Lent) → length block ≡ 530 → IsSet c → lent_right c.settings block ≡ true
 lent-right block c n a = rw (eq-eqb (length c.settings) 10 a.0, eq-eqb (length block) 530 n) refl
 
-pub series-is-inside : (block : List ℕ) (cs : List Lent) (ls : List Left) → length block ≡ 530 → AllSet cs → FollowsThrough block cs ls → Follows (memory_in block) (map input_in cs) (map done_in ls)
-series-is-inside block [] [] n a f = tt
+-- the number of each answer is the one of the refusal that is read back from it
+abbrev pub AllTold : List Left → Type 0
+AllTold [] = Unit {0}
+AllTold (l ∷ ls) = (number_in l.answer ≡ refusal_number (outcome_in l.answer).refusal) × AllTold ls
+
+pub series-is-inside : (block : List ℕ) (cs : List Lent) (ls : List Left) → length block ≡ 530 → AllSet cs → FollowsThrough block cs ls
+    → Follows (memory_in block) (map input_in cs) (map done_in ls) × AllTold ls
+series-is-inside block [] [] n a f = (tt, tt)
 series-is-inside block [] (l ∷ ls) n a f = absurd f
 series-is-inside block (c ∷ cs) [] n a f = absurd f
 series-is-inside block (c ∷ cs) (l ∷ ls) n a f =
     let right = lent-right block c n a.0 in
     let size = right-block c.settings block in
-    (step-inside size a.0.1 f.0 right, series-is-inside l.block cs ls (step-size size a.0.1 f.0 right) a.1 f.1)
+    let here = step-inside size a.0.1 f.0 right in
+    let rest = series-is-inside l.block cs ls (step-size size a.0.1 f.0 right) a.1 f.1 in
+    ((here.0, rest.0), (here.1, rest.1))
 
 -- a call with settings of another size is refused and leaves the block, so that every call leaves what was accepted last; its block has 530
 -- octets again
@@ -80,7 +85,7 @@ call-leaves block c l n o w = by_cases (lent_right c.settings block) inside refu
     size e = n
 
     inside : lent_right c.settings block ≡ true → AfterStep (memory_in block) (input_in c) (done_in l) × (length l.block ≡ 530)
-    inside e = (after-step (memory_in block) (input_in c) (done_in l) (block-roomy block n) o (step-inside size o w e), step-size size o w e)
+    inside e = (after-step (memory_in block) (input_in c) (done_in l) (block-roomy block n) o (step-inside size o w e).0, step-size size o w e)
 
     refused : lent_right c.settings block ≡ false → AfterStep (memory_in block) (input_in c) (done_in l) × (length l.block ≡ 530)
     refused e =
@@ -90,7 +95,7 @@ call-leaves block c l n o w = by_cases (lent_right c.settings block) inside refu
 
 last-through : (block : List ℕ) (cs : List Lent) (ls : List Left) (c : Lent) (l : Left) → length block ≡ 530 → AllOctets (map input_in cs) → IsSet c → FollowsThrough block (cs ++ (c ∷ [])) (ls ++ (l ∷ []))
     → Last (memory_in block) (map input_in cs) (map done_in ls) (input_in c) (done_in l)
-last-through block [] [] c l n a own f = record { memory = memory_in block; recalls = λ side b. refl; did = step-inside (λ e. n) own.1 f.0 (lent-right block c n own) }
+last-through block [] [] c l n a own f = record { memory = memory_in block; recalls = λ side b. refl; did = (step-inside (λ e. n) own.1 f.0 (lent-right block c n own)).0 }
 last-through block [] (g ∷ []) c l n a own f = absurd f.1
 last-through block [] (g ∷ k ∷ ls) c l n a own f = absurd f.1
 last-through block (e ∷ []) [] c l n a own f = absurd f.1
