@@ -3,7 +3,7 @@
 #![tactic(auto)]
 
 mod records;
-mod stores;
+pub mod stores;
 
 ghost use Rattle.std.specs.Prelude.{◌≡◌, [], Err};
 ghost use Rattle.frame.specs.Order.{first_of};
