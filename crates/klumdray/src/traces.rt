@@ -51,7 +51,7 @@ pub(crate) fn of_traced(answer: Result<Traced, Refusal>) -> u64
     }
 }
 
-// The numbers of include/klumdray.h, which the order of the list does not give.
+// The numbers of include/klumdray.h, one by one: they stay there whatever the list's order is.
 fn of_passage(passage: Passage) -> u32
     ensures { (result ≡ passage_number passage) × (result < 8) }
 {
