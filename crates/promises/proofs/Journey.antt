@@ -1,6 +1,6 @@
 -- Demand 3, and what a planner really wants to know: the list is what the couplers do, whatever each of them remembers, the backbone being
 -- TP1 or IP. A first sending is put on the starting line of a well-formed site at work, and just that telegram is traced.
-use Rattle.std.specs.Prelude.{Result, Ok, Err}
+use Rattle.std.specs.Prelude.{Result, Ok}
 use Prim.Native.Nat.{ℕ, zero, suc, ◌≤◌, ◌<◌}
 use mathlib.Core.Bool.{Bool, true, false, ◌&&◌}
 use mathlib.Core.List.{List, [], ◌∷◌}
@@ -18,6 +18,7 @@ use Rattle.frame.specs.declared.Meaning.{Meaning}
 use Rattle.octets.proofs.Truth.{by_cases, and-true}
 use Rattle.octets.specs.Octets.{Octets, weigh}
 use Rattle.octets.specs.Room.{over}
+use Rattle.promises.specs.Readings.{traced_in}
 use Rattle.site.specs.WellFormed.{site_tests}
 use Rattle.journey.proofs.Handing.{backbone-ip}
 use Rattle.journey.proofs.Journey.{list-is-journey, arrives-listed, arrives-below, sends-so-many, sends-once as sends-alike}
@@ -36,11 +37,6 @@ use Rattle.frame.specs.declared.Refusal.{Refusal}
 -- the backbone may be either: it is IP exactly if it is meant to be
 pub backbone-on-ip : (w : AtWork) → NoneOf (site_tests w.stores w.site) → is_ip w 0 ≡ w.meant_ip 0
 backbone-on-ip w ok = backbone-ip w ((passed-iff (site_tests w.stores w.site)).1 ok)
-
--- what a trace answers; with a refusal no line and no forwarding
-abbrev pub traced_in : Result Traced Refusal → Traced
-traced_in (Ok t) = t
-traced_in (Err r) = record { lines = 0; forwardings = 0 }
 
 module _ (w : AtWork) (o : Octets w.site) (ok : NoneOf (site_tests w.stores w.site)) (start : ℕ) (small : start < 256) (m : Meaning) (p : List ℕ) (v : Valid m p) (new : m.first ≡ true)
     (room room' : List ℕ) (given : Result Traced Refusal) (large : 768 ≤ length room) (d : DidTrace w.stores w.site (asked_of w start m) room given room') where

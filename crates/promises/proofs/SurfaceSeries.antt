@@ -28,6 +28,7 @@ use Rattle.promises.proofs.Heard.{Hears, hears-side}
 use Rattle.promises.proofs.LastAccepted.{AfterStep, unchanged, after-step, AllOctets, Last, one_more, stopped-after, acknowledged-after, forwarded-after}
 use Rattle.promises.proofs.Repetition.{Stopped, Survives, stopped-exactly}
 use Rattle.promises.proofs.Surface.{remembered-read}
+use Rattle.promises.specs.Readings.{AllTold}
 
 -- one call
 module _ (settings : List ℕ) (k : Coupler) (block s room : List ℕ) (answer : ℕ) (block' room' : List ℕ) (octets : Octets s) (w : SteppedThrough (lent_right settings block) k block s room answer block' room') (right : lent_right settings block ≡ true) where
@@ -55,11 +56,6 @@ AllSet (c ∷ cs) = IsSet c × AllSet cs
 
 lent-right : (block : List ℕ) (c : Lent) → length block ≡ 530 → IsSet c → lent_right c.settings block ≡ true
 lent-right block c n a = rw (eq-eqb (length c.settings) 10 a.0, eq-eqb (length block) 530 n) refl
-
--- the number of each answer is the one of the refusal that is read back from it
-abbrev pub AllTold : List Left → Type 0
-AllTold [] = Unit {0}
-AllTold (l ∷ ls) = (number_in l.answer ≡ refusal_number (outcome_in l.answer).refusal) × AllTold ls
 
 pub series-is-inside : (block : List ℕ) (cs : List Lent) (ls : List Left) → length block ≡ 530 → AllSet cs → FollowsThrough block cs ls
     → Follows (memory_in block) (map input_in cs) (map done_in ls) × AllTold ls
